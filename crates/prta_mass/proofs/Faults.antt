@@ -1,0 +1,70 @@
+-- Pairs with no fault make a table.
+use Rattle.std.proofs.Common.{◌≡◌, ℕ, ◌+◌, ◌-◌, Bool, true, false, Option, Some, None, List, length, All, nat_eq, nat_lt, position, option_map, arith, refl}
+use Rattle.std.specs.List.Sorted.{IsStrictlyIncreasing}
+use Rattle.std.proofs.lemmas.Bool.Decides.{nat_tests}
+use Rattle.std.proofs.lemmas.List.Sums.{fails_before_first}
+use Rattle.std.proofs.lemmas.List.{length-map, get_or-map}
+use Rattle.prta_mass.specs.declared.table.TheConstants.{POINT_LIMIT, TOTAL_LIMIT}
+use Rattle.prta_mass.specs.declared.table.TableFault.TheVariants.{Empty, TooManyPoints, ZeroTime, NotIncreasing, ZeroWeight, TotalTooLarge}
+use Rattle.prta_mass.specs.Table.{Table, IsTable, fault_of, or_else, when, times, falls_at, not_increasing, zero_time, zero_weight, total}
+use Rattle.prta_mass.proofs.Find.{fails_in_range}
+
+first_none : {X : Type 0} (a b : Option X) → or_else a b ≡ None → a ≡ None
+first_none None b h = refl
+first_none (Some x) b h = h
+
+next_none : {X : Type 0} (a b : Option X) → or_else a b ≡ None → b ≡ None
+next_none None b h = h
+next_none (Some x) b h = cc
+
+six_none : {X : Type 0} (a b c d e f : Option X) → or_else a (or_else b (or_else c (or_else d (or_else e f)))) ≡ None →
+    (a ≡ None) × (b ≡ None) × (c ≡ None) × (d ≡ None) × (e ≡ None) × (f ≡ None)
+six_none a b c d e f h =
+    let g = next_none a (or_else b (or_else c (or_else d (or_else e f)))) h in
+    let i = next_none b (or_else c (or_else d (or_else e f))) g in
+    let j = next_none c (or_else d (or_else e f)) i in
+    let k = next_none d (or_else e f) j in
+    (first_none a _ h, first_none b _ g, first_none c _ i, first_none d _ j, first_none e _ k, next_none e f k)
+
+when_none : {X : Type 0} (b : Bool) (x : X) → when b x ≡ None → b ≡ false
+when_none true x h = cc
+when_none false x h = refl
+
+map_none : {X Y : Type 0} (f : X → Y) (o : Option X) → option_map f o ≡ None → o ≡ None
+map_none f None h = refl
+map_none f (Some x) h = cc
+
+-- where no place passes, each element fails
+position_none : {X : Type 0} (p : X → Bool) (xs : List X) → position p xs ≡ None → All (λ x. p x ≡ false) xs
+position_none p xs h = λ k d low. fails_before_first p xs k d (grind (arith, nat_tests))
+
+-- the times rise where no place falls
+rising : (pairs : Table) → not_increasing pairs ≡ None → IsStrictlyIncreasing (times pairs)
+rising pairs h = λ k low.
+    let first : ℕ × ℕ → ℕ = λ pair. pair.0 in
+    let long : length (times pairs) ≡ length pairs = length-map pairs first in
+    let fails = fails_in_range (falls_at pairs) 1 (length pairs - 1) (k + 1) h (omega arith) (omega arith) in
+    let before : k + 1 - 1 ≡ k = omega arith in
+    let above = rw before at fails in
+    let here = get_or-map first pairs k (0, 0) 0 (omega arith) in
+    let next = get_or-map first pairs (k + 1) (0, 0) 0 (omega arith) in
+    rw (here, next) (grind (arith, nat_tests))
+
+pub IsTable-from_none : (pairs : Table) → fault_of pairs ≡ None → IsTable pairs
+IsTable-from_none pairs h =
+    let n : ℕ = length pairs in
+    let none = six_none (when (nat_eq n 0) Empty) (when (nat_lt POINT_LIMIT n) (TooManyPoints n)) (option_map ZeroTime (zero_time pairs)) (option_map NotIncreasing (not_increasing pairs))
+    (option_map ZeroWeight (zero_weight pairs)) (when (nat_lt TOTAL_LIMIT (total pairs)) TotalTooLarge) h in
+    let some : nat_eq n 0 ≡ false = when_none _ Empty none.0 in
+    let few : nat_lt POINT_LIMIT n ≡ false = when_none _ (TooManyPoints n) none.1 in
+    let limited : nat_lt TOTAL_LIMIT (total pairs) ≡ false = when_none _ TotalTooLarge none.5 in
+    let times_pass = position_none (λ (pair : ℕ × ℕ). nat_eq pair.0 0) pairs (map_none ZeroTime _ none.2) in
+    let weights_pass = position_none (λ (pair : ℕ × ℕ). nat_eq pair.1 0) pairs (map_none ZeroWeight _ none.4) in
+    record {
+      some = grind (arith, nat_tests);
+      few = grind (arith, nat_tests);
+      positive_times = λ k d low. let fails = times_pass k d low in grind (arith, nat_tests);
+      increasing = rising pairs (map_none NotIncreasing _ none.3);
+      positive_weights = λ k d low. let fails = weights_pass k d low in grind (arith, nat_tests);
+      limited = grind (arith, nat_tests);
+    }

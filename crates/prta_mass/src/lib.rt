@@ -1,0 +1,18 @@
+//! Units of chance, time tables, and decimals that are rounded in a stated direction.
+#![tactic(auto)]
+
+mod decimal;
+mod direction;
+mod memory;
+mod support;
+mod table;
+#[cfg(test)]
+mod tests;
+mod unit;
+
+pub use decimal::{decimal_down, decimal_up};
+pub use direction::Dir;
+pub use memory::NoMemory;
+pub use support::Support;
+pub use table::{POINT_LIMIT, TOTAL_LIMIT, TableFault, TimeTable};
+pub use unit::UNIT;

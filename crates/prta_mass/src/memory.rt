@@ -1,0 +1,19 @@
+//! Want of memory, which is merged with no other refusal.
+
+use std::alloc::{AllocError, AllocFailed};
+
+/// The memory that the call needs can't be had.
+#[derive(Clone, Copy, Debug, PartialEq, Eq)]
+pub struct NoMemory;
+
+impl From<AllocError> for NoMemory {
+    fn from(_error: AllocError) -> NoMemory {
+        NoMemory
+    }
+}
+
+impl<T: Drop> From<AllocFailed<T>> for NoMemory {
+    fn from(_error: AllocFailed<T>) -> NoMemory {
+        NoMemory
+    }
+}

@@ -1,0 +1,150 @@
+//! Time tables: the times of a task with their weights.
+
+ghost use Rattle.std.specs.Prelude.{◌≡◌, ◌≢◌, ℕ, ◌+◌, ◌<◌, ◌≤◌, Some, None, length, IfOk, IfErr, IsOk};
+ghost use Rattle.prta_mass.specs.Table.{Table, total, greatest, zero_time, zero_weight, not_increasing, fault_of, IsTable};
+
+use std::alloc::Global;
+use std::marker::Model;
+use thiserror::Error;
+
+/// The weights of a table sum to at most this.
+pub const TOTAL_LIMIT: u64 = 4_294_967_296;
+
+/// A table has at most this many points.
+pub const POINT_LIMIT: usize = 32;
+
+/// Why pairs of a time and a weight make no table.
+#[derive(Clone, Copy, Debug, PartialEq, Eq, Error)]
+pub enum TableFault {
+    /// There are no pairs.
+    #[error("no times")]
+    Empty,
+    /// There are that many pairs, more than `POINT_LIMIT`.
+    #[error("{0} times, more than 32")]
+    TooManyPoints(usize),
+    /// The pair at this place, from 0, is the first with time 0.
+    #[error("the time at place {0} is 0")]
+    ZeroTime(usize),
+    /// The pair at this place is the first whose time isn't above the one before.
+    #[error("the time at place {0} isn't above the one before")]
+    NotIncreasing(usize),
+    /// The pair at this place is the first with weight 0.
+    #[error("the weight at place {0} is 0")]
+    ZeroWeight(usize),
+    /// The weights sum to more than `TOTAL_LIMIT`.
+    #[error("the weights sum to more than 4294967296")]
+    TotalTooLarge,
+    /// Want of memory.
+    #[error("no memory")]
+    NoMemory,
+}
+
+/// The execution times of a task, rising, each with its weight. The chance of a time is its weight over the total.
+#[derive(Debug, Drop)]
+pub struct TimeTable {
+    points: Vec<(u32, u64)>,
+}
+
+impl Model for TimeTable {
+    ghost Value = { Table };
+
+    ghost view = { λ t. t.points.items };
+
+    ghost invariant = { λ t. IsTable t.points.items };
+}
+
+impl TimeTable {
+    /// Makes a table of just these pairs of a time in ticks and a weight. The faults are tested in the order of
+    /// the enum, each over all pairs before the next; memory is taken last.
+    pub fn new(alloc: Global, pairs: &[(u32, u64)]) -> Result<TimeTable, TableFault>
+        ensures made { IfOk result (λ table. table ≡ pairs.now) }
+        ensures accepted { IsOk result → fault_of pairs.now ≡ None }
+        ensures refused { IfErr result (λ fault. fault ≢ TableFault.NoMemory → fault_of pairs.now ≡ Some fault) }
+        ensures memory { result ≡ Err TableFault.NoMemory → fault_of pairs.now ≡ None }
+    {
+        if let Some(fault) = first_fault(pairs) {
+            return Err(fault);
+        }
+        match Vec::from_slice(alloc, pairs) {
+            Ok(points) => Ok(TimeTable { points }),
+            Err(_) => Err(TableFault::NoMemory),
+        }
+    }
+
+    /// The pairs of a time in ticks and its weight, by rising time.
+    pub fn points(&self) -> &[(u32, u64)]
+        ensures pairs { result.now ≡ self.now }
+        ensures table { IsTable self.now }
+    {
+        &self.points
+    }
+
+    /// The sum of the weights.
+    pub fn total(&self) -> u64
+        ensures { result ≡ total self.now }
+    {
+        total_of(&self.points) as u64
+    }
+
+    /// The greatest time, in ticks.
+    pub fn greatest(&self) -> u32
+        ensures { result ≡ greatest self.now }
+    {
+        self.points[self.points.len() - 1].0
+    }
+}
+
+// The fault of the pairs, without memory.
+fn first_fault(pairs: &[(u32, u64)]) -> Option<TableFault>
+    ensures { result ≡ fault_of pairs.now }
+{
+    if pairs.is_empty() {
+        return Some(TableFault::Empty);
+    }
+    if pairs.len() > POINT_LIMIT {
+        return Some(TableFault::TooManyPoints(pairs.len()));
+    }
+    if let Some(i) = first_zero_time(pairs) {
+        return Some(TableFault::ZeroTime(i));
+    }
+    if let Some(i) = first_not_increasing(pairs) {
+        return Some(TableFault::NotIncreasing(i));
+    }
+    if let Some(i) = first_zero_weight(pairs) {
+        return Some(TableFault::ZeroWeight(i));
+    }
+    if total_of(pairs) > TOTAL_LIMIT as u128 {
+        return Some(TableFault::TotalTooLarge);
+    }
+    None
+}
+
+fn first_zero_time(pairs: &[(u32, u64)]) -> Option<usize>
+    ensures { result ≡ zero_time pairs.now }
+{
+    pairs.iter().position(|pair| pair.0 == 0)
+}
+
+fn first_zero_weight(pairs: &[(u32, u64)]) -> Option<usize>
+    ensures { result ≡ zero_weight pairs.now }
+{
+    pairs.iter().position(|pair| pair.1 == 0)
+}
+
+fn first_not_increasing(pairs: &[(u32, u64)]) -> Option<usize>
+    ensures { result ≡ not_increasing pairs.now }
+{
+    for i in 1..pairs.len() {
+        if pairs[i].0 <= pairs[i - 1].0 {
+            return Some(i);
+        }
+    }
+    None
+}
+
+fn total_of(pairs: &[(u32, u64)]) -> u128
+    requires { length pairs.now ≤ 32 }
+    ensures { result ≡ total pairs.now }
+{
+    pairs.iter().map(|pair| pair.1 as u128).sum()
+}

@@ -1,0 +1,78 @@
+//! Worked values of tables, of their faults and of decimals.
+
+use super::*;
+use std::test::Fail;
+
+#[test]
+fn a_table_is_what_it_was_made_from(rt: HostRuntime) -> Result<(), Fail> {
+    let table = TimeTable::new(rt.alloc(), &[(3, 9), (7, 1)])?;
+    assert_eq!(rt; table.points(), [(3, 9), (7, 1)].as_slice());
+    assert_eq!(rt; table.total(), 10);
+    assert_eq!(rt; table.greatest(), 7);
+    Ok(())
+}
+
+#[test]
+fn pairs_of_no_table_have_their_first_fault(rt: HostRuntime) -> Result<(), Fail> {
+    let mut many = Vec::new(rt.alloc());
+    for time in 1..34 {
+        many.push((time, 1))?;
+    }
+    let empty: [(u32, u64); 0] = [];
+    let cases: [(&[(u32, u64)], TableFault); 8] = [
+        (&empty, TableFault::Empty),
+        (&many, TableFault::TooManyPoints(33)),
+        (&[(1, 1), (1, 1)], TableFault::NotIncreasing(1)),
+        (&[(2, 1), (1, 1), (0, 0)], TableFault::ZeroTime(2)),
+        (&[(7, 3), (3, 0)], TableFault::NotIncreasing(1)),
+        (&[(3, 1), (7, 0)], TableFault::ZeroWeight(1)),
+        (&[(3, 4_294_967_296), (7, 1)], TableFault::TotalTooLarge),
+        (
+            &[(3, 18_446_744_073_709_551_615), (7, 2)],
+            TableFault::TotalTooLarge,
+        ),
+    ];
+    for (pairs, want) in cases {
+        assert!(rt;
+            TimeTable::new(rt.alloc(), pairs).err() == Some(want),
+            "{want}"
+        );
+    }
+    assert!(rt; TimeTable::new(rt.alloc(), &[(3, 4_294_967_296)]).is_ok());
+    let _ = many.pop();
+    assert!(rt; TimeTable::new(rt.alloc(), &many).is_ok());
+    Ok(())
+}
+
+#[test]
+fn decimals_are_rounded_in_their_direction(rt: HostRuntime) {
+    let cases: [(u64, &[u8], &[u8]); 6] = [
+        (0, b"0.000000000000", b"0.000000000000"),
+        (1, b"0.000000000000", b"0.000000000001"),
+        (
+            115_292_150_460_684_697,
+            b"0.099999999999",
+            b"0.100000000000",
+        ),
+        (
+            115_292_150_460_684_698,
+            b"0.100000000000",
+            b"0.100000000001",
+        ),
+        (
+            288_230_376_151_711_744,
+            b"0.250000000000",
+            b"0.250000000000",
+        ),
+        (UNIT, b"1.000000000000", b"1.000000000000"),
+    ];
+    for (u, down, up) in cases {
+        let mut text = [0; 14];
+        if u <= UNIT {
+            decimal_down(u, &mut text);
+            assert_eq!(rt; text.as_slice(), down, "{u} down");
+            decimal_up(u, &mut text);
+            assert_eq!(rt; text.as_slice(), up, "{u} up");
+        }
+    }
+}
