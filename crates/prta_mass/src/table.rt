@@ -81,14 +81,16 @@ impl TimeTable {
 
     /// The sum of the weights.
     pub fn total(&self) -> u64
-        ensures { result ≡ total self.now }
+        ensures total { result ≡ total self.now }
+        ensures table { IsTable self.now }
     {
         total_of(&self.points) as u64
     }
 
     /// The greatest time, in ticks.
     pub fn greatest(&self) -> u32
-        ensures { result ≡ greatest self.now }
+        ensures greatest { result ≡ greatest self.now }
+        ensures table { IsTable self.now }
     {
         self.points[self.points.len() - 1].0
     }

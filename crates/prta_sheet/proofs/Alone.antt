@@ -1,0 +1,139 @@
+-- The first job of a task that stands alone on its sheet.
+use Rattle.std.proofs.Common.{◌≡◌, ℕ, zero, suc, ◌+◌, ◌-◌, ◌*◌, ◌/◌, ◌≤◌, ◌<◌, true, false, ◌&&◌, ◌||◌, nat_le, nat_lt, nat_eq, if◌then◌else◌, List, [], ◌∷◌, ◌++◌, refl, ap, ap₂, sym, ◌∙◌, subst, arith, zero-add, suc-add, mul-le-mul_left, div-mul-le_self}
+use Rattle.std.specs.List.{AllByRecursion as Each}
+use Rattle.std.specs.Int.{div_ceil}
+use Rattle.std.proofs.Math.Nat.{zero-div, zero-mod}
+use Rattle.std.proofs.lemmas.Grind.{div_ceil_times}
+use Rattle.std.proofs.lemmas.Bool.{le-leb, lt-leb}
+use Rattle.std.proofs.lemmas.Bool.Decides.{nat_tests}
+use Rattle.prta_mass.specs.Unit.{unit}
+use Rattle.prta_mass.specs.Table.{total}
+use Rattle.prta_sheet.specs.Sheet.{Task}
+use Rattle.prta_sheet.specs.Job.{Job, table_of, is_release, released_at, jobs_before}
+use Rattle.prta_sheet.specs.Assignment.{Timed, total_of}
+use Rattle.prta_sheet.specs.Machine.{place, goes_before, misses}
+use Rattle.prta_sheet.specs.Chance.{miss_weight, chance_total}
+use Rattle.prta_sheet.specs.Weights.{one_if, weigh}
+use Rattle.prta_sheet.specs.Laws.{weight_above, first_job_of, FirstJobAlone, QuotientsAreAround}
+use Rattle.prta_sheet.proofs.Each.{Each-append, Each-weaker, Each-from_map}
+use Rattle.prta_sheet.proofs.Sums.{sum_by-same, sum_by-times, sum_by-filter}
+use Rattle.prta_sheet.proofs.Weighing.{jobs_of, listed_passing, weigh-same_on, weigh_constant}
+use Rattle.prta_sheet.proofs.First.{served_first}
+
+module _ (task : Task) where
+  abbrev tasks : List Task
+  tasks = task ∷ []
+
+  abbrev order : List ℕ
+  order = 0 ∷ []
+
+  abbrev job : Job
+  job = first_job_of task
+
+  -- ---- the jobs before a time
+
+  none_released : (t : ℕ) → t < task.offset → released_at 0 tasks t ≡ []
+  none_released t h = let no : nat_le task.offset t ≡ false = lt-leb task.offset t h in rw no refl
+
+  none_before : (t : ℕ) → t ≤ task.offset → jobs_before tasks t ≡ []
+  none_before zero h = refl
+  none_before (suc t) h = ap₂ (λ a b. a ++ b) (none_before t (omega arith)) (none_released t (omega arith))
+
+  first_released : released_at 0 tasks task.offset ≡ job ∷ []
+  first_released =
+      let yes : nat_le task.offset task.offset ≡ true = le-leb task.offset task.offset (omega arith) in
+      let gone : task.offset - task.offset ≡ 0 = omega arith in
+      rw (yes, gone, zero-mod task.period, zero-div task.period) refl
+
+  -- a later job of the task
+  abbrev IsLater : Job → Type 0
+  IsLater j = (j.task ≡ 0) × (task.offset < j.release)
+
+  later_released : (t : ℕ) → task.offset < t → Each IsLater (released_at 0 tasks t)
+  later_released t h =
+      elim (is_release task t) as (λ b. Each IsLater ((if b then record { task = 0; number = (t - task.offset) / task.period; release = t } ∷ [] else []) ++ [])) [ true ↦ ((refl, h), tt) | false ↦ tt ]
+
+  -- past the offset the jobs are the first one and later ones
+  record FirstThenLater (t : ℕ) : Type 0 where
+    more : List Job
+    split : jobs_before tasks t ≡ job ∷ more
+    later : Each IsLater more
+
+  first_then_later : (n : ℕ) → FirstThenLater (n + suc task.offset)
+  first_then_later zero = record { more = []; split = ap (jobs_before tasks) (zero-add (suc task.offset)) ∙ ap₂ (λ a b. a ++ b) (none_before task.offset (omega arith)) first_released; later = tt }
+  first_then_later (suc n) =
+      let t : ℕ = n + suc task.offset in
+      let now : FirstThenLater t = first_then_later n in
+      record {
+        more = now.more ++ released_at 0 tasks t;
+        split = ap (jobs_before tasks) (suc-add n (suc task.offset)) ∙ ap (λ js. js ++ released_at 0 tasks t) now.split;
+        later = Each-append IsLater now.more (released_at 0 tasks t) now.later (later_released t (omega arith));
+      }
+
+  -- ---- the first job among later ones
+
+  goes_before_later : (j : Job) → IsLater j → goes_before order job j ≡ true
+  goes_before_later j h = by_release (place order 0) (place order j.task) task.offset j.release (ap (place order) h.0) h.1
+    where
+      by_release : (p q r s : ℕ) → q ≡ p → r < s → (nat_lt p q || (nat_eq p q && nat_lt r s)) ≡ true
+      by_release p q r s e l = grind (arith, nat_tests)
+
+  -- it misses where its own time is above its deadline
+  misses_by_time : (more : List Job) → Each IsLater more → (c : ℕ) (a : List Timed) → jobs_of a ≡ more →
+      misses order job (task.offset + task.deadline) (record { job = job; time = c } ∷ a) ≡ nat_lt task.deadline c
+  misses_by_time more later c a e =
+      let behind : Each (λ e. goes_before order job e.job ≡ true) a =
+      Each-from_map (λ j. goes_before order job j ≡ true) (λ e. e.job) a
+      (Each-weaker IsLater _ goes_before_later (jobs_of a) (subst (λ js. Each IsLater js) (sym e) later)) in
+      ap (nat_lt 0) (served_first order [] a (record { job = job; time = c }) behind (task.offset + task.deadline)) ∙ above task.offset task.deadline
+    where
+      above : (o d : ℕ) → nat_lt 0 (c - ((o + d) - o)) ≡ nat_lt d c
+      above o d = grind (arith, nat_tests)
+
+  -- ---- the weights
+
+  module _ (some : 0 < task.deadline) where
+    jobs : FirstThenLater (task.offset + task.deadline)
+    jobs = let e : (task.deadline - 1) + suc task.offset ≡ task.offset + task.deadline = omega arith in subst FirstThenLater e (first_then_later (task.deadline - 1))
+
+    abbrev rest : ℕ
+    rest = total_of (table_of tasks) jobs.more
+
+    missed : miss_weight tasks order job ≡ weight_above task.deadline task.table * rest
+    missed =
+        let f : List Timed → ℕ = λ a. one_if (misses order job (task.offset + task.deadline) a) in
+        let one : ℕ × ℕ → ℕ = λ pair. pair.1 * one_if (nat_lt task.deadline pair.0) in
+        listed_passing (table_of tasks) (jobs_before tasks (task.offset + task.deadline)) (misses order job (task.offset + task.deadline))
+        ∙ ap (λ js. weigh (table_of tasks) js f) jobs.split
+        ∙ sum_by-same _ (λ pair. rest * one pair) (λ pair.
+        ap (λ s. pair.1 * s)
+        (weigh-same_on (table_of tasks) jobs.more _ (λ a. one_if (nat_lt task.deadline pair.0)) (λ a e. ap one_if (misses_by_time jobs.more jobs.later pair.0 a e))
+        ∙ weigh_constant (table_of tasks) (one_if (nat_lt task.deadline pair.0)) jobs.more)
+        ∙ omega arith) task.table
+        ∙ sum_by-times rest one task.table
+        ∙ ap (λ s. rest * s) (sym (sum_by-filter (λ pair. nat_lt task.deadline pair.0) (λ pair. pair.1) task.table))
+        ∙ omega arith
+
+    all : chance_total tasks job ≡ total task.table * rest
+    all = ap (total_of (table_of tasks)) jobs.split
+
+pub first_job_alone : FirstJobAlone
+first_job_alone task some = (rest task some, missed task some, all task some)
+
+-- ---- rounded quotients
+
+quotient_below : (u w t rest : ℕ) → (u * w / t) * (t * rest) ≤ u * (w * rest)
+quotient_below u w t rest = omega (arith, mul-le-mul_left rest (div-mul-le_self (u * w) t))
+
+quotient_above : (u w t rest : ℕ) → 0 < t → u * (w * rest) ≤ div_ceil (u * w) t * (t * rest)
+quotient_above u w t rest h = omega (arith, mul-le-mul_left rest (div_ceil_times (u * w) t h).0)
+
+pub quotients_are_around : QuotientsAreAround
+quotients_are_around task some weighs =
+    let w : ℕ = weight_above task.deadline task.table in
+    let t : ℕ = total task.table in
+    let shares = first_job_alone task some in
+    record {
+      below = rw (shares.1, shares.2) (quotient_below unit w t shares.0);
+      above = rw (shares.1, shares.2) (quotient_above unit w t shares.0 weighs);
+    }

@@ -1,0 +1,9 @@
+pub mod Each
+pub mod Sums
+pub mod Weighing
+pub mod First
+pub mod Alone
+pub mod Worked
+pub mod Items
+pub mod Keys
+pub mod OneTask

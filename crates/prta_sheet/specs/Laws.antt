@@ -1,0 +1,51 @@
+-- Laws of the model, each the contract of a function.
+use Rattle.std.specs.Prelude.{◌≡◌, ℕ, ◌-◌, ◌*◌, ◌/◌, ◌<◌, Bool, true, nat_lt, List, [], ◌∷◌, ◌++◌, filter, sum_by}
+use Rattle.std.specs.List.{AllByRecursion}
+use Rattle.std.specs.Int.{div_ceil}
+use Rattle.prta_mass.specs.Unit.{unit}
+use Rattle.prta_mass.specs.Table.{Table, total}
+use Rattle.prta_sheet.specs.Sheet.{Task}
+use Rattle.prta_sheet.specs.Job.{Job}
+use Rattle.prta_sheet.specs.Assignment.{Timed, assignments, weight_of, times_of, total_of}
+use Rattle.prta_sheet.specs.Machine.{goes_before, after, remaining}
+use Rattle.prta_sheet.specs.Chance.{miss_weight, chance_total, IsAround}
+use Rattle.prta_sheet.specs.Weights.{one_if, weigh}
+
+-- sums over the list of all assignments are sums by recursion over the jobs
+pub record SumsOverAssignments : Type 0 where
+  -- the weights of the assignments whose times pass a test
+  pub passing : (table : Job → Table) (jobs : List Job) (p : List Timed → Bool) →
+      sum_by weight_of (filter (λ a. p (times_of a)) (assignments table jobs)) ≡ weigh table jobs (λ a. one_if (p a))
+  -- the weights of all assignments
+  pub all : (table : Job → Table) (jobs : List Job) → weigh table jobs (λ a. 1) ≡ total_of table jobs
+
+-- a job that goes before every other listed job is served at each tick from its release on, until its time is used up
+abbrev pub ServedFirst : Type 0
+ServedFirst =
+    (order : List ℕ) (first last : List Timed) (own : Timed) →
+    AllByRecursion (λ e. goes_before order own.job e.job ≡ true) (first ++ last) →
+    (n : ℕ) → remaining own.job (after order (first ++ own ∷ last) n) ≡ own.time - (n - own.job.release)
+
+-- the weight of the times above a number of ticks
+abbrev pub weight_above : ℕ → Table → ℕ
+weight_above limit table = sum_by (λ pair. pair.1) (filter (λ pair. nat_lt limit pair.0) table)
+
+-- the first job of a task that stands alone on its sheet
+abbrev pub first_job_of : Task → Job
+first_job_of task = record { task = 0; number = 0; release = task.offset }
+
+-- alone, the first job misses where its own time is above its deadline: the jobs after it multiply both weights by the same number
+abbrev pub FirstJobAlone : Type 0
+FirstJobAlone =
+    (task : Task) → 0 < task.deadline →
+    (rest : ℕ)
+    × (miss_weight (task ∷ []) (0 ∷ []) (first_job_of task) ≡ weight_above task.deadline task.table * rest)
+    × (chance_total (task ∷ []) (first_job_of task) ≡ total task.table * rest)
+
+-- so the quotient of the weight above the deadline by the table's total, rounded down and rounded up, is around the exact chance
+abbrev pub QuotientsAreAround : Type 0
+QuotientsAreAround =
+    (task : Task) → 0 < task.deadline → 0 < total task.table →
+    IsAround (task ∷ []) (0 ∷ []) (first_job_of task)
+    (unit * weight_above task.deadline task.table / total task.table)
+    (div_ceil (unit * weight_above task.deadline task.table) (total task.table))

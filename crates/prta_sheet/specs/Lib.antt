@@ -1,0 +1,12 @@
+pub mod Sheet
+pub mod Job
+pub mod Assignment
+pub mod Machine
+pub mod Chance
+pub mod Weights
+pub mod Laws
+pub mod Worked
+pub mod Accepted
+pub mod Document
+pub mod Short
+pub mod Gives

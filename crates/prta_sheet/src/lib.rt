@@ -1,0 +1,21 @@
+//! Sheets of tasks, and the model of the scheduled machine that all bounds are about.
+#![tactic(auto)]
+
+mod document;
+mod fault;
+mod limits;
+mod model;
+mod reading;
+mod settings;
+mod sheet;
+mod task;
+
+pub use fault::SheetFault;
+pub use limits::{NAME_LIMIT, PERIOD_LIMIT, SHEET_LIMIT, TASK_LIMIT, TIME_LIMIT};
+pub use model::{
+    first_job_alone, quotients_are_around, served_first, sums_over_assignments, worked_values,
+};
+pub use reading::read_sheet;
+pub use settings::Settings;
+pub use sheet::Sheet;
+pub use task::Task;

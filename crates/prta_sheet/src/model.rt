@@ -1,0 +1,29 @@
+//! Laws of the model, without code, and what its definitions give on worked values.
+
+ghost use Rattle.prta_sheet.specs.Worked.{WorkedValues};
+ghost use Rattle.prta_sheet.specs.Laws.{SumsOverAssignments, ServedFirst, FirstJobAlone, QuotientsAreAround};
+
+/// The definitions of the model on small sheets: chances of a miss, finishes and the machine's trace.
+pub fn worked_values()
+    ensures { WorkedValues }
+{}
+
+/// A sum over the list of all assignments is a sum by recursion over the jobs.
+pub fn sums_over_assignments()
+    ensures { SumsOverAssignments }
+{}
+
+/// A job that goes before every other one is served from its release on, until its time is used up.
+pub fn served_first()
+    ensures { ServedFirst }
+{}
+
+/// The first job of a task that stands alone misses with the weight of its times above the deadline.
+pub fn first_job_alone()
+    ensures { FirstJobAlone }
+{}
+
+/// The quotients of that weight by the table's total, rounded down and up, are around the exact chance.
+pub fn quotients_are_around()
+    ensures { QuotientsAreAround }
+{}
