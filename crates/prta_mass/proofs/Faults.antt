@@ -1,5 +1,5 @@
 -- Pairs with no fault make a table.
-use Rattle.std.proofs.Common.{◌≡◌, ℕ, ◌+◌, ◌-◌, Bool, true, false, Option, Some, None, List, length, All, nat_eq, nat_lt, position, option_map, arith, refl}
+use Rattle.std.proofs.Common.{◌≡◌, ℕ, ◌+◌, ◌-◌, ◌<◌, Bool, true, false, Option, Some, None, List, length, All, nat_eq, nat_lt, position, option_map, arith, refl}
 use Rattle.std.specs.List.Sorted.{IsStrictlyIncreasing}
 use Rattle.std.proofs.lemmas.Bool.Decides.{nat_tests}
 use Rattle.std.proofs.lemmas.List.Sums.{fails_before_first}
@@ -8,6 +8,7 @@ use Rattle.prta_mass.specs.declared.table.TheConstants.{POINT_LIMIT, TOTAL_LIMIT
 use Rattle.prta_mass.specs.declared.table.TableFault.TheVariants.{Empty, TooManyPoints, ZeroTime, NotIncreasing, ZeroWeight, TotalTooLarge}
 use Rattle.prta_mass.specs.Table.{Table, IsTable, fault_of, or_else, when, times, falls_at, not_increasing, zero_time, zero_weight, total}
 use Rattle.prta_mass.proofs.Find.{fails_in_range}
+use Rattle.prta_mass.proofs.Totals.{total_positive}
 
 first_none : {X : Type 0} (a b : Option X) → or_else a b ≡ None → a ≡ None
 first_none None b h = refl
@@ -60,11 +61,14 @@ IsTable-from_none pairs h =
     let limited : nat_lt TOTAL_LIMIT (total pairs) ≡ false = when_none _ TotalTooLarge none.5 in
     let times_pass = position_none (λ (pair : ℕ × ℕ). nat_eq pair.0 0) pairs (map_none ZeroTime _ none.2) in
     let weights_pass = position_none (λ (pair : ℕ × ℕ). nat_eq pair.1 0) pairs (map_none ZeroWeight _ none.4) in
+    let there : 0 < length pairs = grind (arith, nat_tests) in
+    let weigh : All (λ pair. 0 < pair.1) pairs = λ k d low. let fails = weights_pass k d low in grind (arith, nat_tests) in
     record {
-      some = grind (arith, nat_tests);
+      some = there;
       few = grind (arith, nat_tests);
       positive_times = λ k d low. let fails = times_pass k d low in grind (arith, nat_tests);
       increasing = rising pairs (map_none NotIncreasing _ none.3);
-      positive_weights = λ k d low. let fails = weights_pass k d low in grind (arith, nat_tests);
+      positive_weights = weigh;
+      weighs = total_positive pairs there weigh;
       limited = grind (arith, nat_tests);
     }

@@ -29,6 +29,7 @@ pub record IsTable (pairs : Table) : Type 0 where
   pub positive_times : All (λ pair. 0 < pair.0) pairs
   pub increasing : IsStrictlyIncreasing (times pairs)
   pub positive_weights : All (λ pair. 0 < pair.1) pairs
+  pub weighs : 0 < total pairs
   pub limited : total pairs ≤ TOTAL_LIMIT
 
 -- the first of two answers that is there

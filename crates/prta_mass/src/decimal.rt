@@ -1,9 +1,8 @@
 //! Chances as decimals of twelve places, rounded down or up.
 
-ghost use Rattle.std.specs.Prelude.{◌≡◌, ◌+◌, ◌*◌, ◌/◌, ◌%◌, ◌^◌, ◌<◌, ◌≤◌};
-ghost use Rattle.std.specs.Int.{div_ceil};
+ghost use Rattle.std.specs.Prelude.{◌≡◌, ◌+◌, ◌/◌, ◌%◌, ◌<◌, ◌≤◌};
 ghost use Rattle.prta_mass.specs.Unit.{unit};
-ghost use Rattle.prta_mass.specs.Decimal.{decimal_text};
+ghost use Rattle.prta_mass.specs.Decimal.{decimal_text, decimal_below, decimal_above};
 
 use crate::unit::UNIT;
 
@@ -12,7 +11,7 @@ const PLACES: u128 = 1_000_000_000_000;
 /// Writes `u / UNIT` rounded down to 12 decimals: a digit, a point and twelve digits.
 pub fn decimal_down(u: u64, text: &mut [u8; 14])
     requires { u ≤ unit }
-    ensures { text.new ≡ decimal_text (u * 10 ^ 12 / unit) }
+    ensures { text.new ≡ decimal_below u }
 {
     let scaled = u as u128 * PLACES;
     write_decimal((scaled / UNIT as u128) as u64, text);
@@ -21,7 +20,7 @@ pub fn decimal_down(u: u64, text: &mut [u8; 14])
 /// Writes `u / UNIT` rounded up to 12 decimals: a digit, a point and twelve digits.
 pub fn decimal_up(u: u64, text: &mut [u8; 14])
     requires { u ≤ unit }
-    ensures { text.new ≡ decimal_text (div_ceil (u * 10 ^ 12) unit) }
+    ensures { text.new ≡ decimal_above u }
 {
     let scaled = u as u128 * PLACES;
     write_decimal(scaled.div_ceil(UNIT as u128) as u64, text);

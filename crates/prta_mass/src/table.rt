@@ -82,6 +82,7 @@ impl TimeTable {
     /// The sum of the weights.
     pub fn total(&self) -> u64
         ensures total { result ≡ total self.now }
+        ensures some { 0 < result }
         ensures table { IsTable self.now }
     {
         total_of(&self.points) as u64

@@ -2,7 +2,7 @@
 use Rattle.std.proofs.Common.{◌≡◌, ℕ, zero, suc, ◌+◌, ◌-◌, ◌*◌, ◌/◌, ◌≤◌, ◌<◌, true, false, ◌&&◌, ◌||◌, nat_le, nat_lt, nat_eq, if◌then◌else◌, List, [], ◌∷◌, ◌++◌, refl, ap, ap₂, sym, ◌∙◌, subst, arith, zero-add, suc-add, mul-le-mul_left, div-mul-le_self}
 use Rattle.std.specs.List.{AllByRecursion as Each}
 use Rattle.std.specs.Int.{div_ceil}
-use Rattle.std.proofs.Math.Nat.{zero-div, zero-mod}
+use Rattle.std.proofs.Math.Nat.{zero-div, zero-mod, mod-eq_of_lt}
 use Rattle.std.proofs.lemmas.Grind.{div_ceil_times}
 use Rattle.std.proofs.lemmas.Bool.{le-leb, lt-leb}
 use Rattle.std.proofs.lemmas.Bool.Decides.{nat_tests}
@@ -14,11 +14,12 @@ use Rattle.prta_sheet.specs.Assignment.{Timed, total_of}
 use Rattle.prta_sheet.specs.Machine.{place, goes_before, misses}
 use Rattle.prta_sheet.specs.Chance.{miss_weight, chance_total}
 use Rattle.prta_sheet.specs.Weights.{one_if, weigh}
-use Rattle.prta_sheet.specs.Laws.{weight_above, first_job_of, FirstJobAlone, QuotientsAreAround}
+use Rattle.prta_sheet.specs.Laws.{weight_above, first_job_of, FirstJobAlone, QuotientsAreAround, OneJob}
 use Rattle.prta_sheet.proofs.Each.{Each-append, Each-weaker, Each-from_map}
 use Rattle.prta_sheet.proofs.Sums.{sum_by-same, sum_by-times, sum_by-filter}
 use Rattle.prta_sheet.proofs.Weighing.{jobs_of, listed_passing, weigh-same_on, weigh_constant}
 use Rattle.prta_sheet.proofs.First.{served_first}
+use Rattle.prta_sheet.proofs.OneTask.{hyperperiod_of_one}
 
 module _ (task : Task) where
   abbrev tasks : List Task
@@ -59,8 +60,11 @@ module _ (task : Task) where
     split : jobs_before tasks t ≡ job ∷ more
     later : Each IsLater more
 
+  just_first : jobs_before tasks (suc task.offset) ≡ job ∷ []
+  just_first = ap₂ (λ a b. a ++ b) (none_before task.offset (omega arith)) first_released
+
   first_then_later : (n : ℕ) → FirstThenLater (n + suc task.offset)
-  first_then_later zero = record { more = []; split = ap (jobs_before tasks) (zero-add (suc task.offset)) ∙ ap₂ (λ a b. a ++ b) (none_before task.offset (omega arith)) first_released; later = tt }
+  first_then_later zero = record { more = []; split = ap (jobs_before tasks) (zero-add (suc task.offset)) ∙ just_first; later = tt }
   first_then_later (suc n) =
       let t : ℕ = n + suc task.offset in
       let now : FirstThenLater t = first_then_later n in
@@ -69,6 +73,20 @@ module _ (task : Task) where
         split = ap (jobs_before tasks) (suc-add n (suc task.offset)) ∙ ap (λ js. js ++ released_at 0 tasks t) now.split;
         later = Each-append IsLater now.more (released_at 0 tasks t) now.later (later_released t (omega arith));
       }
+
+  -- before the period is over no other job is released
+  not_again : (t : ℕ) → task.offset < t → t < task.period → released_at 0 tasks t ≡ []
+  not_again t past early =
+      let since : t - task.offset < task.period = omega arith in
+      let after : nat_eq (t - task.offset) 0 ≡ false = grind (arith, nat_tests) in
+      let reached : nat_le task.offset t ≡ true = le-leb task.offset t (omega arith) in
+      rw (reached, mod-eq_of_lt since, after) refl
+
+  only_first : (n : ℕ) → n + suc task.offset ≤ task.period → jobs_before tasks (n + suc task.offset) ≡ job ∷ []
+  only_first zero h = ap (jobs_before tasks) (zero-add (suc task.offset)) ∙ just_first
+  only_first (suc n) h =
+      let t : ℕ = n + suc task.offset in
+      ap (jobs_before tasks) (suc-add n (suc task.offset)) ∙ ap₂ (λ a b. a ++ b) (only_first n (omega arith)) (not_again t (omega arith) (omega arith))
 
   -- ---- the first job among later ones
 
@@ -137,3 +155,8 @@ quotients_are_around task some weighs =
       below = rw (shares.1, shares.2) (quotient_below unit w t shares.0);
       above = rw (shares.1, shares.2) (quotient_above unit w t shares.0 weighs);
     }
+
+pub one_job : OneJob
+one_job task early =
+    let whole : (task.period - suc task.offset) + suc task.offset ≡ task.period = omega arith in
+    ap (jobs_before (task ∷ [])) (hyperperiod_of_one task (omega arith) ∙ sym whole) ∙ only_first task (task.period - suc task.offset) (omega arith)

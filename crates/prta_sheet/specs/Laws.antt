@@ -4,8 +4,8 @@ use Rattle.std.specs.List.{AllByRecursion}
 use Rattle.std.specs.Int.{div_ceil}
 use Rattle.prta_mass.specs.Unit.{unit}
 use Rattle.prta_mass.specs.Table.{Table, total}
-use Rattle.prta_sheet.specs.Sheet.{Task}
-use Rattle.prta_sheet.specs.Job.{Job}
+use Rattle.prta_sheet.specs.Sheet.{Task, hyperperiod}
+use Rattle.prta_sheet.specs.Job.{Job, jobs_before}
 use Rattle.prta_sheet.specs.Assignment.{Timed, assignments, weight_of, times_of, total_of}
 use Rattle.prta_sheet.specs.Machine.{goes_before, after, remaining}
 use Rattle.prta_sheet.specs.Chance.{miss_weight, chance_total, IsAround}
@@ -49,3 +49,7 @@ QuotientsAreAround =
     IsAround (task ∷ []) (0 ∷ []) (first_job_of task)
     (unit * weight_above task.deadline task.table / total task.table)
     (div_ceil (unit * weight_above task.deadline task.table) (total task.table))
+
+-- alone, and released before its period is over, it is the only job of the first hyperperiod
+abbrev pub OneJob : Type 0
+OneJob = (task : Task) → task.offset < task.period → jobs_before (task ∷ []) (hyperperiod (task ∷ [])) ≡ first_job_of task ∷ []

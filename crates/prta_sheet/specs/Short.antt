@@ -1,12 +1,12 @@
 -- The short sheets: one task that fits its period, stated with no other keys than the needed ones.
-use Rattle.std.specs.Prelude.{ℕ, Bool, ◌&&◌, ◌||◌, nat_le, min, is_none, Option, Some, None, List, [], ◌∷◌, length, codes, bytes_eq, if◌then◌else◌}
+use Rattle.std.specs.Prelude.{◌≡◌, ℕ, ◌≤◌, Bool, ◌&&◌, ◌||◌, nat_le, min, is_none, Option, Some, None, List, [], ◌∷◌, length, codes, bytes_eq, if◌then◌else◌}
 use Rattle.toml.specs.Data.{Members, Items}
 use Rattle.prta_mass.specs.Table.{Table, fault_of, greatest}
 use Rattle.prta_sheet.specs.declared.limits.TheConstants.{SHEET_LIMIT, PERIOD_LIMIT}
 use Rattle.prta_sheet.specs.declared.reading.TheConstants.{DEADLINE_LIMIT}
 use Rattle.prta_sheet.specs.declared.settings.Settings.{Settings}
-use Rattle.prta_sheet.specs.Sheet.{Task, Sheet}
-use Rattle.prta_sheet.specs.Accepted.{is_good_name}
+use Rattle.prta_sheet.specs.Sheet.{Task, Sheet, task_at}
+use Rattle.prta_sheet.specs.Accepted.{is_good_name, IsTask}
 use Rattle.prta_sheet.specs.Document.{◌>>=◌, ◌>>◌, only_if, document, has_only, text_at, number_at, array_at, pairs_of, only_table}
 
 -- what a sheet has where it states nothing else
@@ -63,3 +63,16 @@ short_document doc = do
 -- the sheet that short bytes state; none where the bytes are not short
 unfoldable pub short_sheet : List ℕ → Option Sheet
 short_sheet bytes = if nat_le (length bytes) SHEET_LIMIT then document bytes >>= short_document else None
+
+-- ---- what holds of them
+
+pub record IsShortTask (task : Task) : Type 0 where
+  pub ranges : IsTask 2048 task
+  pub offset : task.offset ≡ 0
+  pub deadline : task.deadline ≤ task.period
+  pub times : greatest task.table ≤ task.period
+
+pub record IsShort (sheet : Sheet) : Type 0 where
+  pub settings : sheet.settings ≡ default_settings
+  pub alone : sheet.tasks ≡ task_at sheet.tasks 0 ∷ []
+  pub task : IsShortTask (task_at sheet.tasks 0)

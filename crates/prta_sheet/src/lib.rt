@@ -13,7 +13,8 @@ mod task;
 pub use fault::SheetFault;
 pub use limits::{NAME_LIMIT, PERIOD_LIMIT, SHEET_LIMIT, TASK_LIMIT, TIME_LIMIT};
 pub use model::{
-    first_job_alone, quotients_are_around, served_first, sums_over_assignments, worked_values,
+    first_job_alone, one_job, quotients_are_around, served_first, sums_over_assignments,
+    worked_values,
 };
 pub use reading::read_sheet;
 pub use settings::Settings;

@@ -1,7 +1,7 @@
 //! Laws of the model, without code, and what its definitions give on worked values.
 
 ghost use Rattle.prta_sheet.specs.Worked.{WorkedValues};
-ghost use Rattle.prta_sheet.specs.Laws.{SumsOverAssignments, ServedFirst, FirstJobAlone, QuotientsAreAround};
+ghost use Rattle.prta_sheet.specs.Laws.{SumsOverAssignments, ServedFirst, FirstJobAlone, QuotientsAreAround, OneJob};
 
 /// The definitions of the model on small sheets: chances of a miss, finishes and the machine's trace.
 pub fn worked_values()
@@ -26,4 +26,9 @@ pub fn first_job_alone()
 /// The quotients of that weight by the table's total, rounded down and up, are around the exact chance.
 pub fn quotients_are_around()
     ensures { QuotientsAreAround }
+{}
+
+/// A task alone releases just its first job in the first hyperperiod.
+pub fn one_job()
+    ensures { OneJob }
 {}

@@ -6,8 +6,8 @@ ghost use Rattle.std.specs.BTreeMap.{keys};
 ghost use Rattle.toml.specs.View.{table_view, array_view};
 ghost use Rattle.prta_mass.specs.Table.{IsTable, greatest};
 ghost use Rattle.prta_sheet.specs.Document.{document, has_only, pairs_of};
-ghost use Rattle.prta_sheet.specs.Short.{short_sheet, short_document, short_task, name_of, table_of_items, times_of, is_top_key, is_task_key};
-ghost use Rattle.prta_sheet.specs.Accepted.{IsTask, is_good_name, is_name_byte};
+ghost use Rattle.prta_sheet.specs.Short.{short_sheet, short_document, short_task, name_of, table_of_items, times_of, IsShort, IsShortTask, is_top_key, is_task_key};
+ghost use Rattle.prta_sheet.specs.Accepted.{is_good_name, is_name_byte};
 ghost use Rattle.prta_sheet.specs.Gives.{Gives};
 
 use crate::document::{array_at, number_at, only_table, pair_of, text_at};
@@ -36,13 +36,15 @@ const DEADLINE_LIMIT: u32 = 2_046;
 pub fn read_sheet(alloc: Global, bytes: &[u8]) -> Result<Sheet, SheetFault>
     ensures stated { IfOk result (λ sheet. short_sheet bytes.now ≡ Some sheet) }
     ensures not_yet { result ≡ Err SheetFault.NotYet → short_sheet bytes.now ≡ None }
+    ensures short { IfOk result IsShort }
 {
     gives(alloc, bytes)
 }
 
 #[tactic(auto, unfolding(crate::specs::Short::short_sheet))]
 fn gives(alloc: Global, bytes: &[u8]) -> Result<Sheet, SheetFault>
-    ensures { Gives (λ sheet. sheet) result (short_sheet bytes.now) }
+    ensures gives { Gives (λ sheet. sheet) result (short_sheet bytes.now) }
+    ensures short { IfOk result IsShort }
 {
     if bytes.len() > SHEET_LIMIT {
         return Err(SheetFault::NotYet);
@@ -68,7 +70,8 @@ fn document(alloc: Global, bytes: &[u8]) -> Result<Table, SheetFault>
 
 #[tactic(auto, unfolding(crate::specs::Short::short_document))]
 fn sheet_of(alloc: Global, document: &Table) -> Result<Sheet, SheetFault>
-    ensures { Gives (λ sheet. sheet) result (short_document (table_view document.now)) }
+    ensures gives { Gives (λ sheet. sheet) result (short_document (table_view document.now)) }
+    ensures short { IfOk result IsShort }
 {
     if !has_top_keys_only(document) {
         return Err(SheetFault::NotYet);
@@ -86,7 +89,7 @@ fn sheet_of(alloc: Global, document: &Table) -> Result<Sheet, SheetFault>
 #[tactic(auto, unfolding(crate::specs::Short::short_task))]
 fn task_of(alloc: Global, table: &Table) -> Result<Task, SheetFault>
     ensures gives { Gives (λ task. task) result (short_task (table_view table.now)) }
-    ensures ranges { IfOk result (IsTask 2048) }
+    ensures short { IfOk result IsShortTask }
 {
     if !has_task_keys_only(table) {
         return Err(SheetFault::NotYet);

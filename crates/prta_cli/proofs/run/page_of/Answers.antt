@@ -1,0 +1,5 @@
+use Rattle.prta_cli.proofs.OneTask.{are_around}
+use Rattle.prta_cli.proofs.run.page_of.Goals as goal
+
+pub returns-in-Ok-analyse_page-clause-numbers : goal.returns-in-Ok-analyse_page-clause-numbers
+returns-in-Ok-analyse_page-clause-numbers c = rw c.in-Ok.ensures.stated (are_around c.in-Ok.sheet c.in-Ok.ensures.short c.one_job.ensures c.quotients_are_around.ensures)

@@ -1,0 +1,5 @@
+pub mod Words
+pub mod Quotients
+pub mod Answer
+pub mod Writing
+pub mod Causes

@@ -1,0 +1,24 @@
+-- The two numbers of the job of a short sheet.
+use Rattle.std.specs.Prelude.{ℕ, ◌*◌, ◌/◌, All}
+use Rattle.std.specs.Int.{div_ceil}
+use Rattle.prta_mass.specs.Unit.{unit}
+use Rattle.prta_mass.specs.Table.{total}
+use Rattle.prta_sheet.specs.Sheet.{Task, Sheet, task_at, sheet_order}
+use Rattle.prta_sheet.specs.Job.{Job, analysed_jobs}
+use Rattle.prta_sheet.specs.Chance.{IsAround}
+use Rattle.prta_sheet.specs.Laws.{weight_above}
+use Rattle.prta_report.specs.Text.{Numbers}
+
+-- the weight of the times above the deadline over the table's total, in units of 2^-60, rounded down and rounded up
+abbrev pub quotients : Task → Numbers
+quotients task =
+    let over = weight_above task.deadline task.table in
+    record { lower = unit * over / total task.table; upper = div_ceil (unit * over) (total task.table) }
+
+abbrev pub numbers_of : Sheet → Job → Numbers
+numbers_of sheet job = quotients (task_at sheet.tasks job.task)
+
+-- for each analysed job the two numbers are around the exact chance that it misses its deadline, under the sheet's own order of priorities
+abbrev pub AreAround : Sheet → Type 0
+AreAround sheet =
+    All (λ job. IsAround sheet.tasks (sheet_order sheet.tasks) job (numbers_of sheet job).lower (numbers_of sheet job).upper) (analysed_jobs sheet)

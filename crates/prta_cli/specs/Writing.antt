@@ -1,0 +1,10 @@
+-- What a sink took in a call, where it tells that.
+use Rattle.std.specs.Prelude.{◌≡◌, ℕ, ◌≤◌, ◌++◌, Option, option_map, List, take, length}
+
+-- the whole text
+abbrev pub Took : Option (List ℕ) → Option (List ℕ) → List ℕ → Type 0
+Took before now text = now ≡ option_map (λ taken. taken ++ text) before
+
+-- the first bytes of the text
+abbrev pub TookPart : Option (List ℕ) → Option (List ℕ) → List ℕ → Type 0
+TookPart before now text = (n : ℕ) × (n ≤ length text) × (now ≡ option_map (λ taken. taken ++ take n text) before)

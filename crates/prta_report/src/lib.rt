@@ -1,0 +1,6 @@
+//! Pages of text: lines are written into room that was taken before.
+#![tactic(auto)]
+
+mod page;
+
+pub use page::{LINE, Page};
