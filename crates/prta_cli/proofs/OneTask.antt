@@ -1,6 +1,6 @@
 -- The one job of a short sheet.
-use Rattle.std.proofs.Common.{◌≡◌, ℕ, zero, suc, ◌+◌, ◌*◌, ◌<◌, List, [], ◌∷◌, ◌++◌, length, All, refl, ap, ap₂, sym, ◌∙◌, subst, arith, append-nil, codes}
-use Rattle.prta_sheet.specs.Sheet.{Task, Sheet, task_at, hyperperiod, horizon}
+use Rattle.std.proofs.Common.{◌≡◌, zero, suc, ◌+◌, ◌*◌, [], ◌∷◌, ◌++◌, All, ap, ap₂, sym, ◌∙◌, subst, arith, append-nil, codes}
+use Rattle.prta_sheet.specs.Sheet.{Task, Sheet, task_at, hyperperiod}
 use Rattle.prta_sheet.specs.Job.{Job, analysed_jobs, jobs_before}
 use Rattle.prta_sheet.specs.Chance.{IsAround}
 use Rattle.prta_sheet.specs.Short.{IsShort, IsShortTask, default_settings}

@@ -1,13 +1,13 @@
 -- The statuses that come before the first byte of out.
-use Rattle.std.proofs.Common.{◌≡◌, ℕ, ◌+◌, ◌<◌, false, true, nat_le, Option, Some, None, IfSome, IsSomeAnd, List, [], ◌∷◌, ◌++◌, length, bytes_eq, cond, refl, ap, sym, ◌∙◌, inl, inr, arith}
+use Rattle.std.proofs.Common.{◌≡◌, ℕ, ◌<◌, false, nat_le, Option, Some, None, IfSome, IsSomeAnd, List, [], ◌∷◌, ◌++◌, length, refl, inl, inr, arith}
 use Rattle.std.proofs.lemmas.Bool.Decides.{nat_tests}
-use Rattle.prta_outside.specs.Shelf.{count_of, count_of_failed}
+use Rattle.prta_outside.specs.Shelf.{count_of_failed}
 use Rattle.prta_sheet.specs.Short.{short_sheet}
 use Rattle.prta_sheet.specs.declared.limits.TheConstants.{SHEET_LIMIT}
 use Rattle.prta_cli.specs.declared.status.Status.{Status}
 use Rattle.prta_cli.specs.declared.status.Status.TheVariants.{Done, Usage, ReadFault, WriteFault, NoMemory, NotYet}
 use Rattle.prta_cli.specs.Words.{sheet_name}
-use Rattle.prta_cli.specs.Answer.{answer, answer_to_file, answer_to_name, refusal}
+use Rattle.prta_cli.specs.Answer.{answer, answer_to_file, refusal}
 use Rattle.prta_cli.specs.Causes.{ReadFailed, IsUnlessMemory, IsRefusal}
 
 -- a file past the limit states no short sheet

@@ -1,5 +1,5 @@
 -- Pieces that a sink takes one after the other.
-use Rattle.std.proofs.Common.{◌≡◌, ℕ, ◌+◌, ◌-◌, ◌≤◌, ◌++◌, Option, Some, None, option_map, List, take, drop, length, ap, sym, ◌∙◌, append_assoc, arith}
+use Rattle.std.proofs.Common.{◌≡◌, ℕ, ◌+◌, ◌-◌, ◌++◌, Option, Some, None, option_map, List, take, drop, length, ap, sym, ◌∙◌, append_assoc, arith}
 use Rattle.std.proofs.Math.Seq.{take-add}
 use Rattle.std.proofs.lemmas.List.{take_all, length-drop}
 use Rattle.prta_cli.specs.Writing.{Took}

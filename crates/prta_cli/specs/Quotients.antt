@@ -1,5 +1,5 @@
 -- The two numbers of the job of a short sheet.
-use Rattle.std.specs.Prelude.{ℕ, ◌*◌, ◌/◌, All}
+use Rattle.std.specs.Prelude.{◌*◌, ◌/◌, All}
 use Rattle.std.specs.Int.{div_ceil}
 use Rattle.prta_mass.specs.Unit.{unit}
 use Rattle.prta_mass.specs.Table.{total}

@@ -1,5 +1,5 @@
 -- The total of a table.
-use Rattle.std.proofs.Common.{◌≡◌, ℕ, zero, ◌+◌, ◌≤◌, ◌<◌, [], ◌∷◌, length, All, sum_by, arith}
+use Rattle.std.proofs.Common.{ℕ, ◌<◌, [], ◌∷◌, length, All, arith}
 use Rattle.std.proofs.lemmas.List.Sums.{sum_by-cons}
 use Rattle.prta_mass.specs.Table.{Table, total}
 

@@ -1,5 +1,5 @@
 -- A sheet of one task.
-use Rattle.std.proofs.Common.{◌≡◌, ℕ, zero, suc, ◌+◌, ◌-◌, ◌*◌, ◌%◌, ◌<◌, ◌≤◌, Bool, true, false, nat_eq, List, [], ◌∷◌, length, get_or, All, refl, ap, ◌∙◌, subst, sym, arith}
+use Rattle.std.proofs.Common.{◌≡◌, ℕ, zero, suc, ◌+◌, ◌-◌, ◌*◌, ◌%◌, ◌<◌, ◌≤◌, Bool, true, false, nat_eq, List, [], ◌∷◌, length, get_or, All, subst, sym, arith}
 use Rattle.std.specs.List.{position_or_len, range_with_len}
 use Rattle.std.proofs.lemmas.List.Sums.{position_or_len_is}
 use Rattle.std.proofs.lemmas.List.FromFn.{get_or-range_with_len, length-range_with_len}
@@ -7,7 +7,7 @@ use Rattle.std.proofs.Math.Nat.{mod-eq_of_lt, mod_self}
 use Rattle.std.proofs.lemmas.Bool.Decides.{nat_tests}
 use Rattle.prta_sheet.specs.declared.settings.Settings.{Settings}
 use Rattle.prta_sheet.specs.declared.limits.TheConstants.{PERIOD_LIMIT}
-use Rattle.prta_sheet.specs.Sheet.{Task, Sheet, hyperperiod, least_common_multiple}
+use Rattle.prta_sheet.specs.Sheet.{Task, hyperperiod, least_common_multiple}
 use Rattle.prta_sheet.specs.Accepted.{AreSettings, IsTask, IsAccepted}
 
 -- the least positive multiple of 1 that a number divides is that number

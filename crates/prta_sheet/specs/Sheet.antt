@@ -1,5 +1,5 @@
 -- Sheets: tasks from highest priority to lowest, and the settings of their analysis.
-use Rattle.std.specs.Prelude.{ℕ, ◌+◌, ◌*◌, ◌%◌, nat_eq, List, map, fold, slice_index_or, [], length}
+use Rattle.std.specs.Prelude.{ℕ, ◌+◌, ◌*◌, ◌%◌, nat_eq, List, fold, slice_index_or, [], length}
 use Rattle.std.specs.List.{position_or_len, range_with_len}
 use Rattle.prta_mass.specs.Table.{Table}
 use Rattle.prta_sheet.specs.declared.settings.Settings.{Settings}

@@ -1,5 +1,5 @@
 -- The short sheets: one task that fits its period, stated with no other keys than the needed ones.
-use Rattle.std.specs.Prelude.{◌≡◌, ℕ, ◌≤◌, Bool, ◌&&◌, ◌||◌, nat_le, min, is_none, Option, Some, None, List, [], ◌∷◌, length, codes, bytes_eq, if◌then◌else◌}
+use Rattle.std.specs.Prelude.{◌≡◌, ℕ, ◌≤◌, Bool, ◌||◌, nat_le, min, is_none, Option, Some, None, List, [], ◌∷◌, length, codes, bytes_eq, if◌then◌else◌}
 use Rattle.toml.specs.Data.{Members, Items}
 use Rattle.prta_mass.specs.Table.{Table, fault_of, greatest}
 use Rattle.prta_sheet.specs.declared.limits.TheConstants.{SHEET_LIMIT, PERIOD_LIMIT}

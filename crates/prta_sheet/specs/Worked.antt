@@ -1,10 +1,10 @@
 -- Worked values of the model.
-use Rattle.std.specs.Prelude.{◌≡◌, ℕ, ◌*◌, ◌<◌, List, [], ◌∷◌, map}
+use Rattle.std.specs.Prelude.{◌≡◌, ℕ, List, [], ◌∷◌, map}
 use Rattle.prta_mass.specs.Table.{Table}
 use Rattle.prta_sheet.specs.Sheet.{Task, sheet_order, hyperperiod}
 use Rattle.prta_sheet.specs.Job.{Job, jobs_before}
 use Rattle.prta_sheet.specs.Assignment.{Timed}
-use Rattle.prta_sheet.specs.Machine.{after, remaining, IsFinish}
+use Rattle.prta_sheet.specs.Machine.{after, IsFinish}
 use Rattle.prta_sheet.specs.Chance.{miss_weight, chance_total}
 
 abbrev pub task : ℕ → ℕ → ℕ → Table → Task

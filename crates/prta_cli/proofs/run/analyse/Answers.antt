@@ -1,9 +1,6 @@
-use Rattle.std.proofs.Common.{◌≡◌, Some, Err, ap, sym}
-use Rattle.std.proofs.lemmas.Option.{IfSome_then}
+use Rattle.std.proofs.Common.{Err, ap, sym}
 use Rattle.prta_cli.specs.declared.status.Status.{Status}
-use Rattle.prta_cli.specs.declared.status.Status.TheVariants.{ReadFault, NotYet}
-use Rattle.prta_cli.specs.Words.{texts, sheet_name}
-use Rattle.prta_cli.specs.Causes.{ReadFailed}
+use Rattle.prta_cli.specs.Words.{texts}
 use Rattle.prta_cli.proofs.Refusals.{always, read_failed, not_yet_where, as_told}
 use Rattle.prta_cli.proofs.run.analyse.Goals as goal
 
