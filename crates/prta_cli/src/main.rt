@@ -5,6 +5,8 @@ mod output;
 mod quotients;
 mod run;
 mod status;
+#[cfg(test)]
+mod tests;
 mod text;
 mod words;
 

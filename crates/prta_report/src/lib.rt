@@ -2,5 +2,7 @@
 #![tactic(auto)]
 
 mod page;
+#[cfg(test)]
+mod tests;
 
 pub use page::{LINE, Page};

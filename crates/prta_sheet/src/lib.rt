@@ -9,6 +9,8 @@ mod reading;
 mod settings;
 mod sheet;
 mod task;
+#[cfg(test)]
+mod tests;
 
 pub use fault::SheetFault;
 pub use limits::{NAME_LIMIT, PERIOD_LIMIT, SHEET_LIMIT, TASK_LIMIT, TIME_LIMIT};

@@ -1,0 +1,220 @@
+//! Runs over memory. The expected texts are worked by hand from the definitions.
+
+mod sheets;
+
+use crate::run::run;
+use crate::status::Status;
+use prta_outside::{MemoryShelf, MemorySink};
+use sheets::{NOT_SHORT, QUARTER, QUARTER_TEXT, SHORT, changed, padded};
+use std::alloc::Global;
+use std::test::Fail;
+
+// A run of the program, and what it is to end with.
+#[derive(Clone, Copy)]
+struct Case {
+    words: &'static [&'static str],
+    // The name that the shelf holds, and the number of a read that fails; 0 for none.
+    name: &'static str,
+    failing_read: u64,
+    // How many bytes out takes in all and in a call, and the number of a put that fails; 0 for none.
+    room: usize,
+    most: usize,
+    failing_put: u64,
+    err_room: usize,
+    status: Status,
+    out: &'static [u8],
+    err: &'static [u8],
+}
+
+const NAME: &str = "s.toml";
+
+// Nothing fails.
+const SERVED: Case = Case {
+    words: &["analyse", NAME],
+    name: NAME,
+    failing_read: 0,
+    room: 4_096,
+    most: 4_096,
+    failing_put: 0,
+    err_room: 4_096,
+    status: Status::Done,
+    out: QUARTER_TEXT,
+    err: b"",
+};
+
+const NOT_YET: Case = Case {
+    status: Status::NotYet,
+    out: b"",
+    err: b"prta: not yet\n",
+    ..SERVED
+};
+
+const USAGE: Case = Case {
+    status: Status::Usage,
+    out: b"",
+    err: b"prta: usage\n",
+    ..SERVED
+};
+
+const UNREAD: Case = Case {
+    failing_read: 1,
+    status: Status::ReadFault,
+    out: b"",
+    err: b"prta: read fault\n",
+    ..SERVED
+};
+
+const CASES: [Case; 15] = [
+    SERVED,
+    // Words that are no command, and a name that begins with '-'.
+    Case {
+        words: &[],
+        ..USAGE
+    },
+    Case {
+        words: &["analyse"],
+        ..USAGE
+    },
+    Case {
+        words: &["analyze", NAME],
+        ..USAGE
+    },
+    Case {
+        words: &["ledger", NAME],
+        ..USAGE
+    },
+    Case {
+        words: &[NAME, "analyse"],
+        ..USAGE
+    },
+    Case {
+        words: &["analyse", NAME, NAME],
+        ..USAGE
+    },
+    Case {
+        words: &["analyse", "-s.toml"],
+        name: "-s.toml",
+        ..SERVED
+    },
+    // A first read that fails, a missing name, and a second read that would fail.
+    UNREAD,
+    Case {
+        name: "t.toml",
+        failing_read: 0,
+        ..UNREAD
+    },
+    Case {
+        failing_read: 2,
+        ..SERVED
+    },
+    // An err that fails at once changes no status.
+    Case {
+        err_room: 0,
+        ..SERVED
+    },
+    Case {
+        err_room: 0,
+        err: b"",
+        ..UNREAD
+    },
+    // Ten bytes a call, and then with a second call that fails.
+    Case { most: 10, ..SERVED },
+    Case {
+        most: 10,
+        failing_put: 2,
+        status: Status::WriteFault,
+        out: b"prta analy",
+        err: b"prta: write fault\n",
+        ..SERVED
+    },
+];
+
+fn words_of(alloc: Global, words: &[&str]) -> Result<Vec<String>, Fail> {
+    let mut list = Vec::new(alloc);
+    for word in words {
+        list.push(String::from_str(alloc, word)?)?;
+    }
+    Ok(list)
+}
+
+fn shelf_of(alloc: Global, case: &Case, bytes: &[u8]) -> Result<MemoryShelf, Fail> {
+    let mut shelf = MemoryShelf::new(alloc);
+    shelf.add(case.name, bytes)?;
+    shelf.refuse(case.failing_read)?;
+    Ok(shelf)
+}
+
+fn sink_of(alloc: Global, room: usize, most: usize, failing: u64) -> Result<MemorySink, Fail> {
+    let mut sink = MemorySink::with_room(alloc, room, most.max(1))?;
+    sink.refuse(failing)?;
+    Ok(sink)
+}
+
+// The run over these bytes ends as the case says.
+fn ends_so(alloc: Global, case: &Case, bytes: &[u8]) -> Result<bool, Fail> {
+    let words = words_of(alloc, case.words)?;
+    let mut shelf = shelf_of(alloc, case, bytes)?;
+    let mut out = sink_of(alloc, case.room, case.most, case.failing_put)?;
+    let mut err = sink_of(alloc, case.err_room, 4_096, 0)?;
+    let status = run(alloc, &words, &mut shelf, &mut out, &mut err);
+    Ok(status == case.status && out.bytes() == case.out && err.bytes() == case.err)
+}
+
+#[test]
+fn every_case_ends_so(rt: HostRuntime) -> Result<(), Fail> {
+    for (i, case) in CASES.iter().enumerate() {
+        assert!(rt; ends_so(rt.alloc(), case, QUARTER.as_bytes())?, "case {i}");
+    }
+    Ok(())
+}
+
+#[test]
+fn short_sheets_have_their_numbers(rt: HostRuntime) -> Result<(), Fail> {
+    for (old, new, text) in SHORT {
+        let sheet = changed(rt.alloc(), old, new)?;
+        let case = Case {
+            out: text,
+            ..SERVED
+        };
+        assert!(rt; ends_so(rt.alloc(), &case, sheet.as_bytes())?, "{new}");
+    }
+    Ok(())
+}
+
+#[test]
+fn other_sheets_are_not_yet(rt: HostRuntime) -> Result<(), Fail> {
+    for (old, new) in NOT_SHORT {
+        let sheet = changed(rt.alloc(), old, new)?;
+        assert!(rt; ends_so(rt.alloc(), &NOT_YET, sheet.as_bytes())?, "{new}");
+    }
+    assert!(rt; ends_so(rt.alloc(), &NOT_YET, b"")?, "no bytes");
+    assert!(rt; ends_so(rt.alloc(), &NOT_YET, b"\xff")?, "no text");
+    Ok(())
+}
+
+#[test]
+fn a_file_may_have_just_the_limit(rt: HostRuntime) -> Result<(), Fail> {
+    let sheet = padded(rt.alloc(), 1_048_576)?;
+    assert!(rt; ends_so(rt.alloc(), &SERVED, &sheet)?, "the limit");
+    let sheet = padded(rt.alloc(), 1_048_577)?;
+    assert!(rt; ends_so(rt.alloc(), &NOT_YET, &sheet)?, "a byte more");
+    Ok(())
+}
+
+#[test]
+fn a_full_out_has_a_prefix(rt: HostRuntime) -> Result<(), Fail> {
+    for room in 0..QUARTER_TEXT.len() {
+        let case = Case {
+            room,
+            status: Status::WriteFault,
+            out: &QUARTER_TEXT[..room],
+            err: b"prta: write fault\n",
+            ..SERVED
+        };
+        assert!(rt;
+            ends_so(rt.alloc(), &case, QUARTER.as_bytes())?,
+            "room {room}"
+        );
+    }
+    Ok(())
+}
