@@ -1,3 +1,4 @@
 pub mod Unit
 pub mod Decimal
 pub mod Table
+pub mod Support

@@ -1,5 +1,5 @@
 -- Time tables: the pairs, their total, and what makes a list of pairs no table.
-use Rattle.std.specs.Prelude.{ℕ, ◌-◌, ◌<◌, ◌≤◌, Option, Some, None, Bool, nat_eq, nat_lt, nat_le, if◌then◌else◌, List, map, length, position, find, sum_by, option_map, All, slice_index_or}
+use Rattle.std.specs.Prelude.{ℕ, ◌-◌, ◌*◌, ◌<◌, ◌≤◌, Option, Some, None, Bool, nat_eq, nat_lt, nat_le, if◌then◌else◌, List, map, length, position, find, sum_by, option_map, All, slice_index_or}
 use Rattle.std.specs.List.{range_with_len}
 use Rattle.std.specs.List.Sorted.{IsStrictlyIncreasing}
 use Rattle.prta_mass.specs.declared.table.TheConstants.{POINT_LIMIT, TOTAL_LIMIT}
@@ -13,6 +13,10 @@ Table = List (ℕ × ℕ)
 -- W, the sum of the weights
 abbrev pub total : Table → ℕ
 total pairs = sum_by (λ pair. pair.1) pairs
+
+-- the sum of time times weight: the mean time multiplied by the total
+abbrev pub mean_times_total : Table → ℕ
+mean_times_total pairs = sum_by (λ pair. pair.0 * pair.1) pairs
 
 -- the times alone
 abbrev pub times : Table → List ℕ

@@ -13,6 +13,6 @@ mod unit;
 pub use decimal::{decimal_down, decimal_up};
 pub use direction::Dir;
 pub use memory::NoMemory;
-pub use support::Support;
+pub use support::{Support, is_support};
 pub use table::{POINT_LIMIT, TOTAL_LIMIT, TableFault, TimeTable};
 pub use unit::UNIT;

@@ -1,8 +1,9 @@
 //! Time tables: the times of a task with their weights.
 
 ghost use Rattle.std.specs.Prelude.{◌≡◌, ◌≢◌, ℕ, ◌+◌, ◌<◌, ◌≤◌, Some, None, length, IfOk, IfErr, IsOk};
-ghost use Rattle.prta_mass.specs.Table.{Table, total, greatest, zero_time, zero_weight, not_increasing, fault_of, IsTable};
+ghost use Rattle.prta_mass.specs.Table.{Table, total, mean_times_total, greatest, zero_time, zero_weight, not_increasing, fault_of, IsTable};
 
+use crate::memory::NoMemory;
 use std::alloc::Global;
 use std::marker::Model;
 use thiserror::Error;
@@ -88,6 +89,21 @@ impl TimeTable {
         total_of(&self.points) as u64
     }
 
+    /// The sum of time times weight: the mean time, in ticks, multiplied by the total.
+    pub fn mean_times_total(&self) -> u128
+        ensures { result ≡ mean_times_total self.now }
+    {
+        mean_times_total_of(&self.points)
+    }
+
+    /// An equal table.
+    pub fn copy(&self, alloc: Global) -> Result<TimeTable, NoMemory>
+        ensures { IfOk result (λ table. table ≡ self.now) }
+    {
+        let points = Vec::from_slice(alloc, &self.points)?;
+        Ok(TimeTable { points })
+    }
+
     /// The greatest time, in ticks.
     pub fn greatest(&self) -> u32
         ensures greatest { result ≡ greatest self.now }
@@ -150,4 +166,14 @@ fn total_of(pairs: &[(u32, u64)]) -> u128
     ensures { result ≡ total pairs.now }
 {
     pairs.iter().map(|pair| pair.1 as u128).sum()
+}
+
+fn mean_times_total_of(pairs: &[(u32, u64)]) -> u128
+    requires { length pairs.now ≤ 32 }
+    ensures { result ≡ mean_times_total pairs.now }
+{
+    pairs
+        .iter()
+        .map(|pair| pair.0 as u128 * pair.1 as u128)
+        .sum()
 }

@@ -9,6 +9,9 @@ fn a_table_is_what_it_was_made_from(rt: HostRuntime) -> Result<(), Fail> {
     assert_eq!(rt; table.points(), [(3, 9), (7, 1)].as_slice());
     assert_eq!(rt; table.total(), 10);
     assert_eq!(rt; table.greatest(), 7);
+    assert_eq!(rt; table.mean_times_total(), 34);
+    let copy = table.copy(rt.alloc())?;
+    assert_eq!(rt; copy.points(), [(3, 9), (7, 1)].as_slice());
     Ok(())
 }
 
@@ -42,6 +45,19 @@ fn pairs_of_no_table_have_their_first_fault(rt: HostRuntime) -> Result<(), Fail>
     let _ = many.pop();
     assert!(rt; TimeTable::new(rt.alloc(), &many).is_ok());
     Ok(())
+}
+
+#[test]
+fn support_points_are_fine_or_multiples_or_last(rt: HostRuntime) {
+    let support = Support { fine: 2, step: 4 };
+    let mut kept = [false; 10];
+    for k in 0..10 {
+        kept[k] = is_support(support, 10, k);
+    }
+    let want = [
+        true, true, true, false, true, false, false, false, true, true,
+    ];
+    assert_eq!(rt; kept, want);
 }
 
 #[test]

@@ -7,3 +7,15 @@ pub mod Worked
 pub mod Items
 pub mod Keys
 pub mod OneTask
+pub mod Below
+pub mod Multiples
+pub mod Releases
+pub mod Whole
+pub mod WorkSums
+pub mod OneSheet
+pub mod CanonicalValues
+pub mod CanonicalLines
+pub mod CanonicalDocument
+pub mod CanonicalAscii
+pub mod Canonical
+pub mod Statable

@@ -1,14 +1,11 @@
--- A sheet of one task.
-use Rattle.std.proofs.Common.{◌≡◌, ℕ, zero, suc, ◌+◌, ◌-◌, ◌*◌, ◌%◌, ◌<◌, ◌≤◌, Bool, true, false, nat_eq, List, [], ◌∷◌, length, get_or, All, subst, sym, arith}
+-- The hyperperiod of one task.
+use Rattle.std.proofs.Common.{◌≡◌, ℕ, ◌+◌, ◌-◌, ◌*◌, ◌%◌, ◌<◌, ◌≤◌, Bool, true, false, nat_eq, List, [], ◌∷◌, length, get_or, arith}
 use Rattle.std.specs.List.{position_or_len, range_with_len}
 use Rattle.std.proofs.lemmas.List.Sums.{position_or_len_is}
 use Rattle.std.proofs.lemmas.List.FromFn.{get_or-range_with_len, length-range_with_len}
 use Rattle.std.proofs.Math.Nat.{mod-eq_of_lt, mod_self}
 use Rattle.std.proofs.lemmas.Bool.Decides.{nat_tests}
-use Rattle.prta_sheet.specs.declared.settings.Settings.{Settings}
-use Rattle.prta_sheet.specs.declared.limits.TheConstants.{PERIOD_LIMIT}
 use Rattle.prta_sheet.specs.Sheet.{Task, hyperperiod, least_common_multiple}
-use Rattle.prta_sheet.specs.Accepted.{AreSettings, IsTask, IsAccepted}
 
 -- the least positive multiple of 1 that a number divides is that number
 multiple_of_one : (period : ℕ) → 1 ≤ period → least_common_multiple 1 period ≡ period
@@ -36,20 +33,3 @@ multiple_of_one period some =
 
 pub hyperperiod_of_one : (task : Task) → 1 ≤ task.period → hyperperiod (task ∷ []) ≡ task.period
 hyperperiod_of_one task some = multiple_of_one task.period some
-
-all_of_one : {X : Type 0} (P : X → Type 0) (x : X) → P x → All P (x ∷ [])
-all_of_one P x here = along
-  where
-    along : All P (x ∷ [])
-    along zero d low = here
-    along (suc k) d low = absurd (omega arith)
-
-pub accepted : (settings : Settings) (task : Task) → AreSettings settings → IsTask settings.cap task →
-    IsAccepted (record { settings = settings; tasks = task ∷ [] })
-accepted settings task a b = record {
-  settings = a;
-  some = omega arith;
-  few = omega arith;
-  tasks = all_of_one (IsTask settings.cap) task b;
-  short_hyperperiod = let h = hyperperiod_of_one task b.period_low in subst (λ n. n ≤ PERIOD_LIMIT) (sym h) b.period_high;
-}

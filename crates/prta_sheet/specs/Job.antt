@@ -1,5 +1,5 @@
 -- Jobs: what the tasks release, and when.
-use Rattle.std.specs.Prelude.{ℕ, zero, suc, ◌+◌, ◌-◌, ◌/◌, ◌%◌, Bool, ◌&&◌, nat_le, nat_eq, if◌then◌else◌, List, [], ◌∷◌, ◌++◌}
+use Rattle.std.specs.Prelude.{ℕ, zero, suc, ◌+◌, ◌-◌, ◌*◌, ◌/◌, ◌%◌, Bool, ◌&&◌, nat_le, nat_eq, if◌then◌else◌, List, [], ◌∷◌, ◌++◌}
 use Rattle.prta_mass.specs.Table.{Table}
 use Rattle.prta_sheet.specs.Sheet.{Task, Sheet, task_at, horizon}
 
@@ -12,6 +12,10 @@ pub record Job : Type 0 where
 -- the table of a job is that of its task
 abbrev pub table_of : List Task → Job → Table
 table_of tasks job = (task_at tasks job.task).table
+
+-- the k-th job of task i
+abbrev pub nth_job : List Task → ℕ → ℕ → Job
+nth_job tasks i k = record { task = i; number = k; release = (task_at tasks i).offset + k * (task_at tasks i).period }
 
 -- the absolute deadline: the release plus the task's deadline
 abbrev pub deadline_of : List Task → Job → ℕ

@@ -1,11 +1,12 @@
 -- Laws of the model, each the contract of a function.
-use Rattle.std.specs.Prelude.{◌≡◌, ℕ, ◌-◌, ◌*◌, ◌/◌, ◌<◌, Bool, true, nat_lt, List, [], ◌∷◌, ◌++◌, filter, sum_by}
+use Rattle.std.specs.Prelude.{◌≡◌, ℕ, ◌-◌, ◌*◌, ◌/◌, ◌%◌, ◌<◌, ◌≤◌, Bool, true, nat_lt, nat_eq, List, [], ◌∷◌, ◌++◌, filter, sum_by, length, All}
 use Rattle.std.specs.List.{AllByRecursion}
 use Rattle.std.specs.Int.{div_ceil}
 use Rattle.prta_mass.specs.Unit.{unit}
 use Rattle.prta_mass.specs.Table.{Table, total}
-use Rattle.prta_sheet.specs.Sheet.{Task, hyperperiod}
+use Rattle.prta_sheet.specs.Sheet.{Task, task_at, hyperperiod}
 use Rattle.prta_sheet.specs.Job.{Job, jobs_before}
+use Rattle.prta_sheet.specs.Counts.{releases}
 use Rattle.prta_sheet.specs.Assignment.{Timed, assignments, weight_of, times_of, total_of}
 use Rattle.prta_sheet.specs.Machine.{goes_before, after, remaining}
 use Rattle.prta_sheet.specs.Chance.{miss_weight, chance_total, IsAround}
@@ -53,3 +54,19 @@ QuotientsAreAround =
 -- alone, and released before its period is over, it is the only job of the first hyperperiod
 abbrev pub OneJob : Type 0
 OneJob = (task : Task) → task.offset < task.period → jobs_before (task ∷ []) (hyperperiod (task ∷ [])) ≡ first_job_of task ∷ []
+
+-- a number is a positive multiple of every period, and no smaller one is
+pub record IsLeastMultiple (tasks : List Task) (n : ℕ) : Type 0 where
+  pub positive : 1 ≤ n
+  pub multiple : All (λ task. n % task.period ≡ 0) tasks
+  pub least : (m : ℕ) → 1 ≤ m → All (λ task. m % task.period ≡ 0) tasks → n ≤ m
+
+-- the hyperperiod is the least positive multiple of every period
+abbrev pub HyperperiodIsLeast : Type 0
+HyperperiodIsLeast = (tasks : List Task) → All (λ task. 1 ≤ task.period) tasks → IsLeastMultiple tasks (hyperperiod tasks)
+
+-- how many jobs of a task are released before a time
+abbrev pub ReleasesBefore : Type 0
+ReleasesBefore =
+    (tasks : List Task) (i t : ℕ) → i < length tasks →
+    length (filter (λ job. nat_eq job.task i) (jobs_before tasks t)) ≡ releases (task_at tasks i) t

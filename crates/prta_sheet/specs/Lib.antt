@@ -1,8 +1,10 @@
 pub mod Sheet
 pub mod Job
+pub mod Counts
 pub mod Assignment
 pub mod Machine
 pub mod Chance
+pub mod Work
 pub mod Weights
 pub mod Laws
 pub mod Worked
@@ -10,3 +12,4 @@ pub mod Accepted
 pub mod Document
 pub mod Short
 pub mod Gives
+pub mod Canonical

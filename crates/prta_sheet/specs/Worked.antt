@@ -1,8 +1,10 @@
 -- Worked values of the model.
-use Rattle.std.specs.Prelude.{◌≡◌, ℕ, List, [], ◌∷◌, map}
+use Rattle.std.specs.Prelude.{◌≡◌, ℕ, None, List, [], ◌∷◌, map}
 use Rattle.prta_mass.specs.Table.{Table}
-use Rattle.prta_sheet.specs.Sheet.{Task, sheet_order, hyperperiod}
+use Rattle.prta_sheet.specs.Sheet.{Task, Sheet, sheet_order, hyperperiod}
 use Rattle.prta_sheet.specs.Job.{Job, jobs_before}
+use Rattle.prta_sheet.specs.Counts.{job_count, all_jobs}
+use Rattle.prta_sheet.specs.Work.{work}
 use Rattle.prta_sheet.specs.Assignment.{Timed}
 use Rattle.prta_sheet.specs.Machine.{after, IsFinish}
 use Rattle.prta_sheet.specs.Chance.{miss_weight, chance_total}
@@ -33,6 +35,10 @@ second_release = record { task = 0; number = 1; release = 4 }
 abbrev pub start : List Timed
 start = record { job = first_job 0; time = 2 } ∷ record { job = first_job 1; time = 4 } ∷ record { job = second_release; time = 1 } ∷ []
 
+-- that sheet with a cap of 12 and one hyperperiod
+abbrev pub pair_sheet : Sheet
+pair_sheet = record { settings = record { cap = 12; hyperperiods = 1; turns = 16; support = None }; tasks = pair 7 }
+
 -- the time that remains to each listed job after n ticks
 abbrev pub left_after : ℕ → List ℕ
 left_after n = map (λ e. e.time) (after (0 ∷ 1 ∷ []) start n)
@@ -50,6 +56,10 @@ pub record WorkedValues : Type 0 where
   pub hyperperiod_of_pair : hyperperiod (pair 7) ≡ 8
   pub hyperperiod_of_three : hyperperiod (task 0 4 4 [] ∷ task 0 6 6 [] ∷ task 0 9 9 [] ∷ []) ≡ 36
   pub jobs_of_pair : jobs_before (pair 7) 8 ≡ first_job 0 ∷ first_job 1 ∷ second_release ∷ []
+  pub counts_of_pair : map (job_count pair_sheet) (0 ∷ 1 ∷ []) ≡ 2 ∷ 1 ∷ []
+  pub all_jobs_of_pair : all_jobs pair_sheet ≡ 3
+  -- twice 12 * (2 + 2 + 2), and the two points of the second release, between 0 and 7, times 7 + 1
+  pub work_of_pair : work pair_sheet ≡ 160
   pub after_2 : left_after 2 ≡ 0 ∷ 4 ∷ 1 ∷ []
   pub after_4 : left_after 4 ≡ 0 ∷ 2 ∷ 1 ∷ []
   pub after_5 : left_after 5 ≡ 0 ∷ 2 ∷ 0 ∷ []

@@ -1,6 +1,7 @@
 //! Sheets of tasks, and the model of the scheduled machine that all bounds are about.
 #![tactic(auto)]
 
+mod count;
 mod document;
 mod fault;
 mod limits;
@@ -11,14 +12,19 @@ mod sheet;
 mod task;
 #[cfg(test)]
 mod tests;
+mod text;
+mod work;
 
 pub use fault::SheetFault;
-pub use limits::{NAME_LIMIT, PERIOD_LIMIT, SHEET_LIMIT, TASK_LIMIT, TIME_LIMIT};
+pub use limits::{
+    JOB_LIMIT, NAME_LIMIT, PERIOD_LIMIT, SHEET_LIMIT, TASK_LIMIT, TIME_LIMIT, WORK_LIMIT,
+};
 pub use model::{
-    first_job_alone, one_job, quotients_are_around, served_first, sums_over_assignments,
-    worked_values,
+    first_job_alone, hyperperiod_is_least, one_job, quotients_are_around, releases_before,
+    served_first, sums_over_assignments, worked_values,
 };
 pub use reading::read_sheet;
 pub use settings::Settings;
 pub use sheet::Sheet;
 pub use task::Task;
+pub use text::{accepted_are_statable, sheet_text, text_states_sheet};

@@ -14,3 +14,9 @@ pub const TIME_LIMIT: u32 = 1_000_000;
 
 /// A period and the hyperperiod are at most this many ticks.
 pub const PERIOD_LIMIT: u32 = 1_000_000;
+
+/// A sheet has at most this many analysed jobs.
+pub const JOB_LIMIT: usize = 2_000;
+
+/// The work of a sheet is at most this.
+pub const WORK_LIMIT: u64 = 2_147_483_648;

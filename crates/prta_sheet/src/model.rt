@@ -1,7 +1,7 @@
 //! Laws of the model, without code, and what its definitions give on worked values.
 
 ghost use Rattle.prta_sheet.specs.Worked.{WorkedValues};
-ghost use Rattle.prta_sheet.specs.Laws.{SumsOverAssignments, ServedFirst, FirstJobAlone, QuotientsAreAround, OneJob};
+ghost use Rattle.prta_sheet.specs.Laws.{SumsOverAssignments, ServedFirst, FirstJobAlone, QuotientsAreAround, OneJob, HyperperiodIsLeast, ReleasesBefore};
 
 /// The definitions of the model on small sheets: chances of a miss, finishes and the machine's trace.
 pub fn worked_values()
@@ -31,4 +31,14 @@ pub fn quotients_are_around()
 /// A task alone releases just its first job in the first hyperperiod.
 pub fn one_job()
     ensures { OneJob }
+{}
+
+/// The hyperperiod is positive, every period divides it, and no smaller positive number has both.
+pub fn hyperperiod_is_least()
+    ensures { HyperperiodIsLeast }
+{}
+
+/// How many jobs of a task are released before a time, in closed form.
+pub fn releases_before()
+    ensures { ReleasesBefore }
 {}

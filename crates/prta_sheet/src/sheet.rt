@@ -1,11 +1,15 @@
 //! Sheets.
 
-ghost use Rattle.std.specs.Prelude.{◌≡◌, ◌∷◌, [], IfOk};
+ghost use Rattle.std.specs.Prelude.{◌≡◌, ◌<◌, ◌∷◌, [], length, IfOk};
 ghost use Rattle.prta_sheet.specs.Sheet.{Sheet as SheetParts, hyperperiod, horizon};
+ghost use Rattle.prta_sheet.specs.Counts.{job_count, all_jobs};
+ghost use Rattle.prta_sheet.specs.Work.{work};
 ghost use Rattle.prta_sheet.specs.Accepted.{IsAccepted, AreSettings, IsTask};
 
+use crate::count::count_jobs;
 use crate::settings::Settings;
 use crate::task::Task;
+use crate::work::work_of;
 use prta_mass::NoMemory;
 use std::alloc::Global;
 use std::marker::Model;
@@ -69,9 +73,45 @@ impl Sheet {
         self.settings.hyperperiods as u64 * self.hyperperiod
     }
 
-    // A sheet of one task.
+    /// The number of analysed jobs of the task of this number.
+    pub fn job_count(&self, task: usize) -> usize
+        requires { task < length self.now.tasks }
+        ensures { result ≡ job_count self.now task }
+    {
+        (self.horizon() / self.tasks[task].period() as u64) as usize
+    }
+
+    /// The number of all analysed jobs.
+    pub fn all_jobs(&self) -> usize
+        ensures { result ≡ all_jobs self.now }
+    {
+        count_jobs(&self.tasks, self.settings.hyperperiods, self.hyperperiod) as usize
+    }
+
+    /// The work of the sheet: for each task the cap times the points of all analysed jobs, and for each of its own
+    /// jobs, deadline + 1 times, the points of the jobs of other tasks between its release and its absolute deadline.
+    pub fn work(&self) -> u64
+        ensures { result ≡ work self.now }
+    {
+        work_of(&self.tasks, self.settings, self.hyperperiod)
+    }
+
+    /// An equal sheet.
+    pub fn copy(&self, alloc: Global) -> Result<Sheet, NoMemory>
+        ensures { IfOk result (λ sheet. sheet ≡ self.now) }
+    {
+        let tasks = copies_of(alloc, &self.tasks)?;
+        Ok(Sheet {
+            settings: self.settings,
+            tasks,
+            hyperperiod: self.hyperperiod,
+        })
+    }
+
+    // A sheet of one task, analysed over one hyperperiod: it has one job.
     pub(crate) fn of_task(alloc: Global, settings: Settings, task: Task) -> Result<Sheet, NoMemory>
         requires settings { AreSettings settings }
+        requires once { settings.hyperperiods ≡ 1 }
         requires task { IsTask settings.cap task }
         ensures { IfOk result (λ sheet. sheet ≡ record { settings = settings; tasks = task ∷ [] }) }
     {
@@ -84,4 +124,15 @@ impl Sheet {
             hyperperiod,
         })
     }
+}
+
+// Equal tasks, in order.
+fn copies_of(alloc: Global, tasks: &[Task]) -> Result<Vec<Task>, NoMemory>
+    ensures { IfOk result (λ copies. copies.items ≡ tasks.now) }
+{
+    let mut copies = Vec::new(alloc);
+    for task in tasks {
+        copies.push(task.copy(alloc)?)?;
+    }
+    Ok(copies)
 }

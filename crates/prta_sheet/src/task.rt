@@ -51,6 +51,22 @@ impl Task {
         })
     }
 
+    /// An equal task.
+    pub fn copy(&self, alloc: Global) -> Result<Task, NoMemory>
+        ensures { IfOk result (λ task. task ≡ self.now) }
+    {
+        let table = self.table.copy(alloc)?;
+        Task::new(
+            alloc,
+            self.name.as_str(),
+            self.offset,
+            self.period,
+            self.deadline,
+            table,
+            self.allow,
+        )
+    }
+
     /// The name.
     pub fn name(&self) -> &str
         ensures { result.now ≡ self.now.name }

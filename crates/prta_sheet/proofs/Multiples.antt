@@ -1,0 +1,106 @@
+-- Least common multiples.
+use Rattle.std.proofs.Common.{◌≡◌, ℕ, zero, suc, ◌+◌, ◌-◌, ◌*◌, ◌/◌, ◌%◌, ◌<◌, ◌≤◌, Bool, true, false, nat_eq, List, [], ◌∷◌, length, get_or, fold, refl, ap, sym, ◌∙◌, subst, arith, inl, inr}
+use Rattle.std.specs.Int.{◌∣◌}
+use Rattle.std.specs.List.{position_or_len, range_with_len, AllByRecursion as Each}
+use Rattle.std.proofs.lemmas.List.Sums.{fails_before_first, passes_at_first}
+use Rattle.std.proofs.lemmas.List.FromFn.{get_or-range_with_len, length-range_with_len}
+use Rattle.std.proofs.lemmas.List.Elements.{All-from_recursion, recursion_from_All}
+use Rattle.std.proofs.lemmas.Bool.{cases_lt, eqb-true, eqb-false}
+use Rattle.std.proofs.Math.Nat.{div-add-mod, mod-lt, mul-mod_left, dvd-mul_right, dvd-mul_right_of_dvd, dvd-add_iff_right, dvd_of_mod-eq-zero, mod-eq-zero_of_dvd, dvd_trans, dvd_refl, one-dvd, le_of_dvd}
+use Rattle.prta_sheet.specs.Sheet.{Task, least_common_multiple, hyperperiod}
+use Rattle.prta_sheet.specs.Laws.{HyperperiodIsLeast}
+use Rattle.prta_sheet.proofs.Each.{Each-weaker}
+
+module _ (a b : ℕ) (some : 1 ≤ b) where
+  abbrev divides : ℕ → Bool
+  divides k = nat_eq (a * (1 + k) % b) 0
+
+  abbrev counts : List ℕ
+  counts = range_with_len 0 b
+
+  abbrev place : ℕ
+  place = position_or_len divides counts
+
+  -- b divides none of the earlier multiples
+  fails : (k : ℕ) → k < place → k < b → a * (1 + k) % b ≡ 0 → ⊥
+  fails k low below h =
+      let at : get_or counts k 0 ≡ 0 + k = get_or-range_with_len 0 b k 0 below in
+      let same : 0 + k ≡ k = omega arith in
+      let no : divides k ≡ false = ap divides (sym (at ∙ same)) ∙ fails_before_first divides counts k 0 low in
+      eqb-false (a * (1 + k) % b) 0 no h
+
+  -- b divides the b-th multiple
+  last : a * (1 + (b - 1)) % b ≡ 0
+  last = let all : 1 + (b - 1) ≡ b = omega arith in rw all (mul-mod_left a b)
+
+  found : place < b
+  found =
+      elim (cases_lt place b) [
+        | inl low ↦ low
+        | inr past ↦ absurd (fails (b - 1) (omega arith) (omega arith) last)
+      ]
+
+  pub multiple_of_second : least_common_multiple a b % b ≡ 0
+  multiple_of_second =
+      let long : length counts ≡ b = length-range_with_len 0 b in
+      let at : get_or counts place 0 ≡ 0 + place = get_or-range_with_len 0 b place 0 found in
+      let same : 0 + place ≡ place = omega arith in
+      let here : divides place ≡ true = ap divides (sym (at ∙ same)) ∙ passes_at_first divides counts 0 (let low : place < b = found in omega arith) in
+      eqb-true (a * (1 + place) % b) 0 here
+
+  -- it divides every common multiple of a and b
+  pub divides_common : (m : ℕ) → a ∣ m → b ∣ m → least_common_multiple a b ∣ m
+  divides_common m of_a of_b =
+      let j : ℕ = m / a in
+      let q : ℕ = j / (1 + place) in
+      let r : ℕ = j % (1 + place) in
+      let whole : m % a ≡ 0 = mod-eq-zero_of_dvd a of_a in
+      let shares : m ≡ a * j = omega (arith, div-add-mod m a, whole) in
+      let parts : j ≡ (1 + place) * q + r = sym (div-add-mod j (1 + place)) in
+      let split : m ≡ a * (1 + place) * q + a * r = shares ∙ ap (λ i. a * i) parts ∙ omega arith in
+      let rest : b ∣ a * r = (dvd-add_iff_right b (dvd-mul_right_of_dvd b (dvd_of_mod-eq-zero b multiple_of_second) q)).1 (subst (λ n. b ∣ n) split of_b) in
+      let none : r ≡ 0 = no_rest r (mod-lt j (omega arith)) rest in
+      let over : m ≡ a * (1 + place) * q = split ∙ ap (λ i. a * (1 + place) * q + a * i) none ∙ omega arith in
+      subst (λ n. a * (1 + place) ∣ n) (sym over) (dvd-mul_right (a * (1 + place)) q)
+    where
+      no_rest : (r : ℕ) → r < 1 + place → b ∣ a * r → r ≡ 0
+      no_rest zero low h = refl
+      no_rest (suc k) low h =
+          let next : a * suc k ≡ a * (1 + k) = ap (λ i. a * i) (omega arith) in
+          let early : place < b = found in
+          absurd (fails k (omega arith) (omega arith) (ap (λ n. n % b) (sym next) ∙ mod-eq-zero_of_dvd b h))
+
+-- a number, for a start and the periods of tasks: a positive multiple of both that divides every such one
+record IsJoint (start : ℕ) (tasks : List Task) (n : ℕ) : Type 0 where
+  positive : 1 ≤ n
+  of_start : start ∣ n
+  of_periods : Each (λ task. task.period ∣ n) tasks
+  divides_all : (m : ℕ) → start ∣ m → Each (λ task. task.period ∣ m) tasks → n ∣ m
+
+joint : (start : ℕ) (tasks : List Task) → 1 ≤ start → Each (λ task. 1 ≤ task.period) tasks →
+    IsJoint start tasks (fold (λ a task. least_common_multiple a task.period) start tasks)
+joint start [] some each = record { positive = some; of_start = dvd_refl start; of_periods = tt; divides_all = λ m h e. h }
+joint start (task ∷ tasks) some each =
+    let next : ℕ = least_common_multiple start task.period in
+    let rest = joint next tasks (above start (place start task.period each.0) some) each.1 in
+    record {
+      positive = rest.positive;
+      of_start = dvd_trans start (dvd-mul_right start (1 + place start task.period each.0)) rest.of_start;
+      of_periods = (dvd_trans task.period (dvd_of_mod-eq-zero task.period (multiple_of_second start task.period each.0)) rest.of_start, rest.of_periods);
+      divides_all = λ m h e. rest.divides_all m (divides_common start task.period each.0 m h e.0) e.1;
+    }
+  where
+    above : (a p : ℕ) → 1 ≤ a → 1 ≤ a * (1 + p)
+    above a p low = omega arith
+
+pub hyperperiod_is_least : HyperperiodIsLeast
+hyperperiod_is_least tasks some =
+    let h = joint 1 tasks (omega arith) (recursion_from_All (λ task. 1 ≤ task.period) tasks some) in
+    record {
+      positive = h.positive;
+      multiple = All-from_recursion (λ task. hyperperiod tasks % task.period ≡ 0) tasks
+          (Each-weaker (λ task. task.period ∣ hyperperiod tasks) _ (λ task e. mod-eq-zero_of_dvd task.period e) tasks h.of_periods);
+      least = λ m positive e.
+          le_of_dvd positive (h.divides_all m (one-dvd m)
+          (Each-weaker (λ task. m % task.period ≡ 0) _ (λ task z. dvd_of_mod-eq-zero task.period z) tasks (recursion_from_All (λ task. m % task.period ≡ 0) tasks e)));
+    }

@@ -1,0 +1,5 @@
+use Rattle.prta_sheet.proofs.Releases.{releases_before}
+use Rattle.prta_sheet.proofs.model.releases_before.Goals as goal
+
+pub returns : goal.returns
+returns c = releases_before
