@@ -6,7 +6,7 @@ use Rattle.std.proofs.lemmas.List.Sums.{fails_before_first}
 use Rattle.std.proofs.lemmas.List.{length-map, get_or-map}
 use Rattle.prta_mass.specs.declared.table.TheConstants.{POINT_LIMIT, TOTAL_LIMIT}
 use Rattle.prta_mass.specs.declared.table.TableFault.TheVariants.{Empty, TooManyPoints, ZeroTime, NotIncreasing, ZeroWeight, TotalTooLarge}
-use Rattle.prta_mass.specs.Table.{Table, IsTable, fault_of, or_else, when, times, falls_at, not_increasing, zero_time, zero_weight, total}
+use Rattle.prta_mass.specs.Table.{Table, IsTable, shape_fault, fault_of, or_else, when, times, falls_at, not_increasing, zero_time, zero_weight, total}
 use Rattle.prta_mass.proofs.Find.{fails_in_range}
 use Rattle.prta_mass.proofs.Totals.{total_positive}
 
@@ -18,14 +18,12 @@ next_none : {X : Type 0} (a b : Option X) → or_else a b ≡ None → b ≡ Non
 next_none None b h = h
 next_none (Some x) b h = cc
 
-six_none : {X : Type 0} (a b c d e f : Option X) → or_else a (or_else b (or_else c (or_else d (or_else e f)))) ≡ None →
-    (a ≡ None) × (b ≡ None) × (c ≡ None) × (d ≡ None) × (e ≡ None) × (f ≡ None)
-six_none a b c d e f h =
-    let g = next_none a (or_else b (or_else c (or_else d (or_else e f)))) h in
-    let i = next_none b (or_else c (or_else d (or_else e f))) g in
-    let j = next_none c (or_else d (or_else e f)) i in
-    let k = next_none d (or_else e f) j in
-    (first_none a _ h, first_none b _ g, first_none c _ i, first_none d _ j, first_none e _ k, next_none e f k)
+five_none : {X : Type 0} (a b c d e : Option X) → or_else a (or_else b (or_else c (or_else d e))) ≡ None → (a ≡ None) × (b ≡ None) × (c ≡ None) × (d ≡ None) × (e ≡ None)
+five_none a b c d e h =
+    let g = next_none a (or_else b (or_else c (or_else d e))) h in
+    let i = next_none b (or_else c (or_else d e)) g in
+    let j = next_none c (or_else d e) i in
+    (first_none a _ h, first_none b _ g, first_none c _ i, first_none d _ j, next_none d e j)
 
 when_none : {X : Type 0} (b : Bool) (x : X) → when b x ≡ None → b ≡ false
 when_none true x h = cc
@@ -54,11 +52,12 @@ rising pairs h = λ k low.
 pub IsTable-from_none : (pairs : Table) → fault_of pairs ≡ None → IsTable pairs
 IsTable-from_none pairs h =
     let n : ℕ = length pairs in
-    let none = six_none (when (nat_eq n 0) Empty) (when (nat_lt POINT_LIMIT n) (TooManyPoints n)) (option_map ZeroTime (zero_time pairs)) (option_map NotIncreasing (not_increasing pairs))
-    (option_map ZeroWeight (zero_weight pairs)) (when (nat_lt TOTAL_LIMIT (total pairs)) TotalTooLarge) h in
+    let shape = first_none (shape_fault pairs) (when (nat_lt TOTAL_LIMIT (total pairs)) TotalTooLarge) h in
+    let none = five_none (when (nat_eq n 0) Empty) (when (nat_lt POINT_LIMIT n) (TooManyPoints n)) (option_map ZeroTime (zero_time pairs)) (option_map NotIncreasing (not_increasing pairs))
+    (option_map ZeroWeight (zero_weight pairs)) shape in
     let some : nat_eq n 0 ≡ false = when_none _ Empty none.0 in
     let few : nat_lt POINT_LIMIT n ≡ false = when_none _ (TooManyPoints n) none.1 in
-    let limited : nat_lt TOTAL_LIMIT (total pairs) ≡ false = when_none _ TotalTooLarge none.5 in
+    let limited : nat_lt TOTAL_LIMIT (total pairs) ≡ false = when_none _ TotalTooLarge (next_none (shape_fault pairs) (when (nat_lt TOTAL_LIMIT (total pairs)) TotalTooLarge) h) in
     let times_pass = position_none (λ (pair : ℕ × ℕ). nat_eq pair.0 0) pairs (map_none ZeroTime _ none.2) in
     let weights_pass = position_none (λ (pair : ℕ × ℕ). nat_eq pair.1 0) pairs (map_none ZeroWeight _ none.4) in
     let there : 0 < length pairs = grind (arith, nat_tests) in

@@ -1,3 +1,4 @@
 pub mod Find
 pub mod Totals
 pub mod Faults
+pub mod Faultless

@@ -1,5 +1,5 @@
 -- Time tables: the pairs, their total, and what makes a list of pairs no table.
-use Rattle.std.specs.Prelude.{ℕ, ◌-◌, ◌*◌, ◌<◌, ◌≤◌, Option, Some, None, Bool, nat_eq, nat_lt, nat_le, if◌then◌else◌, List, map, length, position, find, sum_by, option_map, All, slice_index_or}
+use Rattle.std.specs.Prelude.{◌≡◌, ◌↔◌, ℕ, ◌-◌, ◌*◌, ◌<◌, ◌≤◌, Option, Some, None, Bool, nat_eq, nat_lt, nat_le, if◌then◌else◌, List, map, length, position, find, sum_by, option_map, All, slice_index_or}
 use Rattle.std.specs.List.{range_with_len}
 use Rattle.std.specs.List.Sorted.{IsStrictlyIncreasing}
 use Rattle.prta_mass.specs.declared.table.TheConstants.{POINT_LIMIT, TOTAL_LIMIT}
@@ -60,12 +60,19 @@ falls_at pairs i = nat_le (slice_index_or pairs i (0, 0)).0 (slice_index_or pair
 abbrev pub not_increasing : Table → Option ℕ
 not_increasing pairs = find (falls_at pairs) (range_with_len 1 (length pairs - 1))
 
--- what the first test that fails says of the pairs; none where they make a table
-abbrev pub fault_of : Table → Option TableFault
-fault_of pairs =
+-- what the first test of the pairs that fails says, the weights' sum aside
+abbrev pub shape_fault : Table → Option TableFault
+shape_fault pairs =
     or_else (when (nat_eq (length pairs) 0) Empty)
     (or_else (when (nat_lt POINT_LIMIT (length pairs)) (TooManyPoints (length pairs)))
     (or_else (option_map ZeroTime (zero_time pairs))
     (or_else (option_map NotIncreasing (not_increasing pairs))
-    (or_else (option_map ZeroWeight (zero_weight pairs))
-    (when (nat_lt TOTAL_LIMIT (total pairs)) TotalTooLarge)))))
+    (option_map ZeroWeight (zero_weight pairs)))))
+
+-- what the first test that fails says; none where the pairs make a table
+abbrev pub fault_of : Table → Option TableFault
+fault_of pairs = or_else (shape_fault pairs) (when (nat_lt TOTAL_LIMIT (total pairs)) TotalTooLarge)
+
+-- the pairs that make a table are those without a fault
+abbrev pub FaultlessPairs : Type 0
+FaultlessPairs = (pairs : Table) → (fault_of pairs ≡ None) ↔ IsTable pairs

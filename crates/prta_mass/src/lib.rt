@@ -14,5 +14,5 @@ pub use decimal::{decimal_down, decimal_up};
 pub use direction::Dir;
 pub use memory::NoMemory;
 pub use support::{Support, is_support};
-pub use table::{POINT_LIMIT, TOTAL_LIMIT, TableFault, TimeTable};
+pub use table::{POINT_LIMIT, TOTAL_LIMIT, TableFault, TimeTable, faultless_pairs, shape_fault};
 pub use unit::UNIT;

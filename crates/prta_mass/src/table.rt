@@ -1,7 +1,7 @@
 //! Time tables: the times of a task with their weights.
 
 ghost use Rattle.std.specs.Prelude.{◌≡◌, ◌≢◌, ℕ, ◌+◌, ◌<◌, ◌≤◌, Some, None, length, IfOk, IfErr, IsOk};
-ghost use Rattle.prta_mass.specs.Table.{Table, total, mean_times_total, greatest, zero_time, zero_weight, not_increasing, fault_of, IsTable};
+ghost use Rattle.prta_mass.specs.Table.{Table, total, mean_times_total, greatest, zero_time, zero_weight, not_increasing, shape_fault, fault_of, IsTable, FaultlessPairs};
 
 use crate::memory::NoMemory;
 use std::alloc::Global;
@@ -51,7 +51,7 @@ impl Model for TimeTable {
 
     ghost view = { λ t. t.points.items };
 
-    ghost invariant = { λ t. IsTable t.points.items };
+    ghost invariant = { λ t. IsTable t.points.items × (fault_of t.points.items ≡ None) };
 }
 
 impl TimeTable {
@@ -76,6 +76,7 @@ impl TimeTable {
     pub fn points(&self) -> &[(u32, u64)]
         ensures pairs { result.now ≡ self.now }
         ensures table { IsTable self.now }
+        ensures accepted { fault_of self.now ≡ None }
     {
         &self.points
     }
@@ -113,9 +114,10 @@ impl TimeTable {
     }
 }
 
-// The fault of the pairs, without memory.
-fn first_fault(pairs: &[(u32, u64)]) -> Option<TableFault>
-    ensures { result ≡ fault_of pairs.now }
+/// The fault that `TimeTable::new` finds in the pairs, memory and the sum of the weights aside.
+pub fn shape_fault(pairs: &[(u32, u64)]) -> Option<TableFault>
+    ensures fault { result ≡ shape_fault pairs.now }
+    ensures few { result ≡ None → length pairs.now ≤ POINT_LIMIT }
 {
     if pairs.is_empty() {
         return Some(TableFault::Empty);
@@ -131,6 +133,16 @@ fn first_fault(pairs: &[(u32, u64)]) -> Option<TableFault>
     }
     if let Some(i) = first_zero_weight(pairs) {
         return Some(TableFault::ZeroWeight(i));
+    }
+    None
+}
+
+// The fault of the pairs, without memory.
+fn first_fault(pairs: &[(u32, u64)]) -> Option<TableFault>
+    ensures { result ≡ fault_of pairs.now }
+{
+    if let Some(fault) = shape_fault(pairs) {
+        return Some(fault);
     }
     if total_of(pairs) > TOTAL_LIMIT as u128 {
         return Some(TableFault::TotalTooLarge);
@@ -177,3 +189,8 @@ fn mean_times_total_of(pairs: &[(u32, u64)]) -> u128
         .map(|pair| pair.0 as u128 * pair.1 as u128)
         .sum()
 }
+
+/// The pairs that make a table are those without a fault.
+pub fn faultless_pairs()
+    ensures { FaultlessPairs }
+{}

@@ -1,6 +1,9 @@
-use Rattle.std.proofs.Common.{sym, ◌∙◌}
+use Rattle.std.proofs.Common.{◌≡◌, None, sym, ◌∙◌}
+use Rattle.prta_mass.specs.Table.{fault_of}
 use Rattle.prta_mass.proofs.Faults.{IsTable-from_none}
 use Rattle.prta_mass.proofs.table.TimeTable.new.Goals as goal
 
 pub invariant_of-result : goal.invariant_of-result
-invariant_of-result c = rw c.in-Ok.ensures.items (IsTable-from_none c.args.pairs.now (sym c.first_fault.ensures ∙ c.in_default.is))
+invariant_of-result c =
+    let none : fault_of c.args.pairs.now ≡ None = sym c.first_fault.ensures ∙ c.in_default.is in
+    rw c.in-Ok.ensures.items (IsTable-from_none c.args.pairs.now none, none)
