@@ -1,42 +1,63 @@
--- The one job of a short sheet.
-use Rattle.std.proofs.Common.{◌≡◌, zero, suc, ◌+◌, ◌*◌, [], ◌∷◌, ◌++◌, All, ap, ap₂, sym, ◌∙◌, subst, arith, append-nil, codes}
+-- The one job of a simple sheet.
+use Rattle.std.proofs.Common.{◌≡◌, ℕ, zero, suc, ◌+◌, ◌*◌, ◌<◌, true, nat_eq, nat_le, List, [], ◌∷◌, ◌++◌, length, All, ap, ap₂, sym, ◌∙◌, subst, refl, arith, append-nil, codes}
+use Rattle.std.proofs.lemmas.Bool.{and_parts, eqb-true}
+use Rattle.prta_mass.specs.Table.{greatest}
+use Rattle.prta_sheet.specs.declared.settings.Settings.{Settings}
 use Rattle.prta_sheet.specs.Sheet.{Task, Sheet, task_at, hyperperiod}
 use Rattle.prta_sheet.specs.Job.{Job, analysed_jobs, jobs_before}
 use Rattle.prta_sheet.specs.Chance.{IsAround}
-use Rattle.prta_sheet.specs.Short.{IsShort, IsShortTask, default_settings}
+use Rattle.prta_sheet.specs.Accepted.{IsTask, IsAccepted}
 use Rattle.prta_sheet.specs.Laws.{OneJob, QuotientsAreAround, first_job_of}
 use Rattle.prta_report.specs.Text.{Numbers, head_text, job_line, line_of, analyse_text}
 use Rattle.prta_cli.specs.Quotients.{quotients, numbers_of, AreAround}
+use Rattle.prta_cli.specs.Simple.{is_simple}
 
--- the short sheet of a task
-abbrev pub sheet_of : Task → Sheet
-sheet_of task = record { settings = default_settings; tasks = task ∷ [] }
+-- the sheet of a task alone
+abbrev pub sheet_of : Settings → Task → Sheet
+sheet_of settings task = record { settings = settings; tasks = task ∷ [] }
 
-pub as_sheet_of : (sheet : Sheet) → IsShort sheet → sheet ≡ sheet_of (task_at sheet.tasks 0)
-as_sheet_of sheet short = ap₂ (λ settings tasks. record { settings = settings; tasks = tasks }) short.settings short.alone
+only_task : (tasks : List Task) → length tasks ≡ 1 → tasks ≡ task_at tasks 0 ∷ []
+only_task [] long = cc
+only_task (task ∷ []) long = refl
+only_task (first ∷ second ∷ rest) long = cc
 
-module _ (task : Task) (short : IsShortTask task) (one : OneJob) where
+-- what makes a sheet simple, as far as it is needed
+pub record IsAlone (sheet : Sheet) : Type 0 where
+  pub alone : sheet.tasks ≡ task_at sheet.tasks 0 ∷ []
+  pub once : sheet.settings.hyperperiods ≡ 1
+
+pub is_alone : (sheet : Sheet) → is_simple sheet ≡ true → IsAlone sheet
+is_alone sheet simple =
+    let fits = nat_le (greatest (task_at sheet.tasks 0).table) (task_at sheet.tasks 0).period in
+    let parts = and_parts (nat_eq (length sheet.tasks) 1) _ simple in
+    let rest = and_parts (nat_eq sheet.settings.hyperperiods 1) fits parts.1 in
+    record { alone = only_task sheet.tasks (eqb-true (length sheet.tasks) 1 parts.0); once = eqb-true sheet.settings.hyperperiods 1 rest.0 }
+
+pub as_sheet_of : (sheet : Sheet) → IsAlone sheet → sheet ≡ sheet_of sheet.settings (task_at sheet.tasks 0)
+as_sheet_of sheet is = ap (λ tasks. record { settings = sheet.settings; tasks = tasks }) is.alone
+
+module _ (settings : Settings) (task : Task) (once : settings.hyperperiods ≡ 1) (below : task.offset < task.period) (one : OneJob) where
   abbrev job : Job
   job = first_job_of task
 
-  only_job : analysed_jobs (sheet_of task) ≡ job ∷ []
+  only_job : analysed_jobs (sheet_of settings task) ≡ job ∷ []
   only_job =
-      let once : 1 * hyperperiod (task ∷ []) ≡ hyperperiod (task ∷ []) = omega arith in
-      ap (jobs_before (task ∷ [])) once ∙ one task short.ranges.offset
+      let first : settings.hyperperiods * hyperperiod (task ∷ []) ≡ hyperperiod (task ∷ []) = rw once (omega arith) in
+      ap (jobs_before (task ∷ [])) first ∙ one task below
 
   -- the text has the line of that job
-  pub text_of_one : analyse_text (sheet_of task) (numbers_of (sheet_of task)) ≡ head_text (hyperperiod (task ∷ [])) 1 ++ line_of (task ∷ []) job (quotients task) ++ codes "end\n"
+  pub text_of_one : analyse_text (sheet_of settings task) (numbers_of (sheet_of settings task)) ≡ head_text (hyperperiod (task ∷ [])) 1 ++ line_of (task ∷ []) job (quotients task) ++ codes "end\n"
   text_of_one = rw only_job (ap (λ line. head_text (hyperperiod (task ∷ [])) 1 ++ line ++ codes "end\n") (append-nil (line_of (task ∷ []) job (quotients task))))
 
   abbrev IsBounded : Job → Type 0
-  IsBounded j = IsAround (task ∷ []) (0 ∷ []) j (numbers_of (sheet_of task) j).lower (numbers_of (sheet_of task) j).upper
+  IsBounded j = IsAround (task ∷ []) (0 ∷ []) j (numbers_of (sheet_of settings task) j).lower (numbers_of (sheet_of settings task) j).upper
 
   bounded : IsBounded job → All IsBounded (job ∷ [])
   bounded here zero d low = here
   bounded here (suc k) d low = absurd (omega arith)
 
-  pub around_of_one : QuotientsAreAround → AreAround (sheet_of task)
-  around_of_one are_around = subst (All IsBounded) (sym only_job) (bounded (are_around task short.ranges.deadline_low short.ranges.table.weighs))
+  pub around_of_one : IsTask settings.cap task → QuotientsAreAround → AreAround (sheet_of settings task)
+  around_of_one is are_around = subst (All IsBounded) (sym only_job) (bounded (are_around task is.deadline_low is.table.weighs))
 
 -- the line that is written for the first job is the one of the text
 pub first_line : (own task : Task) (numbers : Numbers) → own ≡ task → numbers ≡ quotients own →
@@ -47,5 +68,12 @@ first_line own task numbers same is =
     ∙ ap (λ n. job_line own.name 0 own.offset (own.offset + own.deadline) n) is
     ∙ ap (λ (t : Task). job_line t.name 0 t.offset (t.offset + t.deadline) (quotients t)) same
 
-pub are_around : (sheet : Sheet) → IsShort sheet → OneJob → QuotientsAreAround → AreAround sheet
-are_around sheet short one quotients = subst AreAround (sym (as_sheet_of sheet short)) (around_of_one (task_at sheet.tasks 0) short.task one quotients)
+-- the task is in the ranges
+pub only_is_task : (sheet : Sheet) → IsAlone sheet → IsAccepted sheet → IsTask sheet.settings.cap (task_at sheet.tasks 0)
+only_is_task sheet is accepted = accepted.tasks 0 _ accepted.some
+
+pub are_around : (sheet : Sheet) → is_simple sheet ≡ true → IsAccepted sheet → OneJob → QuotientsAreAround → AreAround sheet
+are_around sheet simple accepted one quotients =
+    let is = is_alone sheet simple in
+    let task = only_is_task sheet is accepted in
+    subst AreAround (sym (as_sheet_of sheet is)) (around_of_one sheet.settings (task_at sheet.tasks 0) is.once task.offset one task quotients)

@@ -1,4 +1,4 @@
--- The two numbers of the job of a short sheet.
+-- The two numbers of the job of a simple sheet.
 use Rattle.std.specs.Prelude.{◌*◌, ◌/◌, All}
 use Rattle.std.specs.Int.{div_ceil}
 use Rattle.prta_mass.specs.Unit.{unit}

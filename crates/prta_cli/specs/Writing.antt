@@ -8,3 +8,10 @@ Took before now text = now ≡ option_map (λ taken. taken ++ text) before
 -- the first bytes of the text
 abbrev pub TookPart : Option (List ℕ) → Option (List ℕ) → List ℕ → Type 0
 TookPart before now text = (n : ℕ) × (n ≤ length text) × (now ≡ option_map (λ taken. taken ++ take n text) before)
+
+-- the first bytes of some line of a kind; the whole line where the sink's count of faults didn't rise
+pub record TookLine (before now : Option (List ℕ)) (Risen : Type 0) (IsKind : List ℕ → Type 0) : Type 0 where
+  pub line : List ℕ
+  pub is : IsKind line
+  pub part : TookPart before now line
+  pub whole : ¬ Risen → Took before now line

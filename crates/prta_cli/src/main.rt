@@ -1,9 +1,12 @@
 //! `prta`: proved bounds on the chance that a job misses its deadline.
 #![tactic(auto)]
 
+mod ending;
 mod output;
 mod quotients;
+mod refused;
 mod run;
+mod simple;
 mod status;
 #[cfg(test)]
 mod tests;

@@ -1,4 +1,4 @@
-//! The two numbers of the job of a short sheet.
+//! The two numbers of the job of a simple sheet.
 
 ghost use Rattle.std.specs.Prelude.{◌≡◌, ◌≤◌, length};
 ghost use Rattle.prta_mass.specs.Unit.{unit};

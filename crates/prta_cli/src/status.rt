@@ -1,7 +1,7 @@
 //! How a run of the program ends.
 
 ghost use Rattle.std.specs.Prelude.{◌≡◌};
-ghost use Rattle.prta_cli.specs.Answer.{err_line, status_number};
+ghost use Rattle.prta_cli.specs.Answer.{status_number};
 
 /// How a run of the program ended.
 #[derive(Clone, Copy, Debug, PartialEq, Eq)]
@@ -10,13 +10,15 @@ pub enum Status {
     Done,
     /// The words are no command.
     Usage,
+    /// A condition on the sheet fails: the first one is told on err.
+    SheetRefused,
     /// The sheet's file can't be read.
     ReadFault,
     /// Out failed before it took the whole text.
     WriteFault,
     /// Want of memory.
     NoMemory,
-    /// The sheet isn't short: its analysis isn't built yet.
+    /// The sheet isn't simple: its analysis isn't built yet.
     NotYet,
 }
 
@@ -28,24 +30,11 @@ impl Status {
         match self {
             Status::Done => 0,
             Status::Usage => 2,
+            Status::SheetRefused => 3,
             Status::ReadFault => 5,
             Status::WriteFault => 6,
             Status::NoMemory => 7,
             Status::NotYet => 8,
-        }
-    }
-
-    /// The line on err; none where the text was taken.
-    pub fn line(&self) -> &'static [u8]
-        ensures { result.now ≡ err_line self.now }
-    {
-        match self {
-            Status::Done => b"",
-            Status::Usage => b"prta: usage\n",
-            Status::ReadFault => b"prta: read fault\n",
-            Status::WriteFault => b"prta: write fault\n",
-            Status::NoMemory => b"prta: no memory\n",
-            Status::NotYet => b"prta: not yet\n",
         }
     }
 }

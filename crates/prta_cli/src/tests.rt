@@ -5,7 +5,7 @@ mod sheets;
 use crate::run::run;
 use crate::status::Status;
 use prta_outside::{MemoryShelf, MemorySink};
-use sheets::{NOT_SHORT, QUARTER, QUARTER_TEXT, SHORT, changed, padded};
+use sheets::{NOT_SIMPLE, QUARTER, QUARTER_TEXT, REFUSED, REFUSED_WHOLE, SIMPLE, changed, padded};
 use std::alloc::Global;
 use std::test::Fail;
 
@@ -46,6 +46,12 @@ const NOT_YET: Case = Case {
     status: Status::NotYet,
     out: b"",
     err: b"prta: not yet\n",
+    ..SERVED
+};
+
+const REFUSAL: Case = Case {
+    status: Status::SheetRefused,
+    out: b"",
     ..SERVED
 };
 
@@ -169,8 +175,8 @@ fn every_case_ends_so(rt: HostRuntime) -> Result<(), Fail> {
 }
 
 #[test]
-fn short_sheets_have_their_numbers(rt: HostRuntime) -> Result<(), Fail> {
-    for (old, new, text) in SHORT {
+fn simple_sheets_have_their_numbers(rt: HostRuntime) -> Result<(), Fail> {
+    for (old, new, text) in SIMPLE {
         let sheet = changed(rt.alloc(), old, new)?;
         let case = Case {
             out: text,
@@ -183,12 +189,29 @@ fn short_sheets_have_their_numbers(rt: HostRuntime) -> Result<(), Fail> {
 
 #[test]
 fn other_sheets_are_not_yet(rt: HostRuntime) -> Result<(), Fail> {
-    for (old, new) in NOT_SHORT {
+    for (old, new) in NOT_SIMPLE {
         let sheet = changed(rt.alloc(), old, new)?;
         assert!(rt; ends_so(rt.alloc(), &NOT_YET, sheet.as_bytes())?, "{new}");
     }
-    assert!(rt; ends_so(rt.alloc(), &NOT_YET, b"")?, "no bytes");
-    assert!(rt; ends_so(rt.alloc(), &NOT_YET, b"\xff")?, "no text");
+    Ok(())
+}
+
+#[test]
+fn changed_sheets_are_refused(rt: HostRuntime) -> Result<(), Fail> {
+    for (old, new, err) in REFUSED {
+        let sheet = changed(rt.alloc(), old, new)?;
+        let case = Case { err, ..REFUSAL };
+        assert!(rt; ends_so(rt.alloc(), &case, sheet.as_bytes())?, "{new}");
+    }
+    Ok(())
+}
+
+#[test]
+fn whole_sheets_are_refused(rt: HostRuntime) -> Result<(), Fail> {
+    for (i, (sheet, err)) in REFUSED_WHOLE.iter().enumerate() {
+        let case = Case { err, ..REFUSAL };
+        assert!(rt; ends_so(rt.alloc(), &case, sheet)?, "sheet {i}");
+    }
     Ok(())
 }
 
@@ -197,7 +220,11 @@ fn a_file_may_have_just_the_limit(rt: HostRuntime) -> Result<(), Fail> {
     let sheet = padded(rt.alloc(), 1_048_576)?;
     assert!(rt; ends_so(rt.alloc(), &SERVED, &sheet)?, "the limit");
     let sheet = padded(rt.alloc(), 1_048_577)?;
-    assert!(rt; ends_so(rt.alloc(), &NOT_YET, &sheet)?, "a byte more");
+    let case = Case {
+        err: b"prta: sheet refused 1\n",
+        ..REFUSAL
+    };
+    assert!(rt; ends_so(rt.alloc(), &case, &sheet)?, "a byte more");
     Ok(())
 }
 

@@ -1,11 +1,11 @@
 //! The text of `analyse`.
 
-ghost use Rattle.std.specs.Prelude.{◌≡◌, ◌+◌, ◌*◌, ◌≤◌, ◌<◌, ◌^◌, ◌++◌, IfOk, length, codes, decimal};
+ghost use Rattle.std.specs.Prelude.{◌≡◌, ◌+◌, ◌*◌, ◌≤◌, ◌<◌, ◌^◌, ◌++◌, true, IfOk, length, codes, decimal};
 ghost use Rattle.prta_mass.specs.Unit.{unit};
 ghost use Rattle.prta_mass.specs.Decimal.{decimal_below, decimal_above};
-ghost use Rattle.prta_sheet.specs.Short.{IsShort};
 ghost use Rattle.prta_report.specs.Text.{analyse_text, head_text, job_line};
 ghost use Rattle.prta_cli.specs.Quotients.{numbers_of};
+ghost use Rattle.prta_cli.specs.Simple.{is_simple};
 
 use crate::quotients::{Bounds, quotients};
 use itoa::Buffer;
@@ -14,9 +14,9 @@ use prta_report::{LINE, Page};
 use prta_sheet::{Sheet, Task, one_job};
 use std::alloc::Global;
 
-/// The whole text for a short sheet.
+/// The whole text for a simple sheet.
 pub fn analyse_page(alloc: Global, sheet: &Sheet) -> Result<Page, NoMemory>
-    requires { IsShort sheet.now }
+    requires { is_simple sheet.now ≡ true }
     ensures { IfOk result (λ page. page.written ≡ analyse_text sheet.now (numbers_of sheet.now)) }
 {
     one_job();
@@ -95,8 +95,8 @@ fn push_upper(page: &mut Page, upper: u64)
     page.push(&text);
 }
 
-// A whole number in decimal.
-fn push_number(page: &mut Page, n: u64)
+/// A whole number in decimal.
+pub fn push_number(page: &mut Page, n: u64)
     requires { 20 ≤ page.old.spare }
     ensures written { page.new.written ≡ page.old.written ++ decimal n }
     ensures room { page.old.spare ≤ page.new.spare + 20 }

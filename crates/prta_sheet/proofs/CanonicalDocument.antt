@@ -48,7 +48,7 @@ abbrev supported : Settings → Option Support → Settings
 supported settings support = record settings { support = support }
 
 -- with a support and without
-by_support : (P : Settings → Type 0) → ((settings : Settings) → P (supported settings None)) → ((settings : Settings) (support : Support) → P (supported settings (Some support)))
+pub by_support : (P : Settings → Type 0) → ((settings : Settings) → P (supported settings None)) → ((settings : Settings) (support : Support) → P (supported settings (Some support)))
     → (settings : Settings) → P settings
 by_support P none some settings = elim settings.support as (λ support. P (supported settings support)) [
   | None ↦ none settings

@@ -7,7 +7,7 @@ use Rattle.std.proofs.lemmas.Str.{is_utf8-from_IsUtf8, IsUtf8-from_is_utf8}
 use Rattle.toml.specs.View.{table_view, members_view}
 use Rattle.toml.specs.Parse.{parse_document}
 use Rattle.toml.specs.declared.value.Value.{Value}
-use Rattle.prta_sheet.specs.Document.{document, has_only}
+use Rattle.prta_sheet.specs.Document.{document, keys_of}
 
 -- bytes that are UTF-8 spell what `toml` reads
 pub document_of_text : (bytes : List ℕ) → IsUtf8 bytes → document bytes ≡ parse_document bytes
@@ -22,9 +22,9 @@ document_refused bytes refused = by_test (is_utf8 bytes) refl
     by_test false is = rw is
 
 -- a test of the keys of the map is the test of the keys of the table
-pub has_only-keys : (listed : List ℕ → Bool) (table : BTreeMap (String Global) Value) → list_all (λ key. listed (string_bytes key)) (keys table) ≡ has_only listed (table_view table)
-has_only-keys listed table = along table.entries
+pub list_all_keys : (listed : List ℕ → Bool) (table : BTreeMap (String Global) Value) → list_all (λ key. listed (string_bytes key)) (keys table) ≡ list_all listed (keys_of (table_view table))
+list_all_keys listed table = along table.entries
   where
-    along : (entries : List (String Global × Value)) → list_all (λ key. listed (string_bytes key)) (map (λ entry. entry.0) entries) ≡ has_only listed (members_view entries)
+    along : (entries : List (String Global × Value)) → list_all (λ key. listed (string_bytes key)) (map (λ entry. entry.0) entries) ≡ list_all listed (keys_of (members_view entries))
     along [] = refl
     along (entry ∷ entries) = ap (λ rest. listed (string_bytes entry.0) && rest) (along entries)

@@ -1,10 +1,10 @@
 -- Least common multiples.
-use Rattle.std.proofs.Common.{◌≡◌, ℕ, zero, suc, ◌+◌, ◌-◌, ◌*◌, ◌/◌, ◌%◌, ◌<◌, ◌≤◌, Bool, true, false, nat_eq, List, [], ◌∷◌, length, get_or, fold, refl, ap, sym, ◌∙◌, subst, arith, inl, inr}
+use Rattle.std.proofs.Common.{◌≡◌, ℕ, zero, suc, ◌+◌, ◌-◌, ◌*◌, ◌/◌, ◌%◌, ◌<◌, ◌≤◌, Bool, true, false, nat_eq, List, [], ◌∷◌, length, get_or, take, All, fold, refl, ap, sym, ◌∙◌, subst, arith, inl, inr}
 use Rattle.std.specs.Int.{◌∣◌}
 use Rattle.std.specs.List.{position_or_len, range_with_len, AllByRecursion as Each}
-use Rattle.std.proofs.lemmas.List.Sums.{fails_before_first, passes_at_first}
+use Rattle.std.proofs.lemmas.List.Sums.{fails_before_first, passes_at_first, position_or_len_is, fold_more}
 use Rattle.std.proofs.lemmas.List.FromFn.{get_or-range_with_len, length-range_with_len}
-use Rattle.std.proofs.lemmas.List.Elements.{All-from_recursion, recursion_from_All}
+use Rattle.std.proofs.lemmas.List.Elements.{All-from_recursion, recursion_from_All, All-take}
 use Rattle.std.proofs.lemmas.Bool.{cases_lt, eqb-true, eqb-false}
 use Rattle.std.proofs.Math.Nat.{div-add-mod, mod-lt, mul-mod_left, dvd-mul_right, dvd-mul_right_of_dvd, dvd-add_iff_right, dvd_of_mod-eq-zero, mod-eq-zero_of_dvd, dvd_trans, dvd_refl, one-dvd, le_of_dvd}
 use Rattle.prta_sheet.specs.Sheet.{Task, least_common_multiple, hyperperiod}
@@ -70,6 +70,22 @@ module _ (a b : ℕ) (some : 1 ≤ b) where
           let early : place < b = found in
           absurd (fails k (omega arith) (omega arith) (ap (λ n. n % b) (sym next) ∙ mod-eq-zero_of_dvd b h))
 
+-- the first place at which b divides is the place of the least common multiple
+pub multiple_at : (a b k : ℕ) → k < b → ((j : ℕ) → j < k → nat_eq (a * (1 + j) % b) 0 ≡ false) → a * (1 + k) % b ≡ 0 → least_common_multiple a b ≡ a * (1 + k)
+multiple_at a b k low earlier here =
+    let divides : ℕ → Bool = λ k. nat_eq (a * (1 + k) % b) 0 in
+    let counts : List ℕ = range_with_len 0 b in
+    let long : length counts ≡ b = length-range_with_len 0 b in
+    let at : (j : ℕ) → j < b → get_or counts j 0 ≡ j = λ j below. get_or-range_with_len 0 b j 0 below ∙ omega arith in
+    let before : (j : ℕ) → j < k → divides (get_or counts j 0) ≡ false = λ j below. rw (at j (omega arith)) (earlier j below) in
+    let there : k < length counts → divides (get_or counts k 0) ≡ true = λ below. rw (at k low, here) refl in
+    let place : position_or_len divides counts ≡ k = position_or_len_is divides counts k 0 (omega arith) before there in
+    ap (λ n. a * (1 + n)) place
+
+-- b divides its own multiple, so a place is always found
+pub never_past : (a b : ℕ) → 1 ≤ b → ((j : ℕ) → j < b → nat_eq (a * (1 + j) % b) 0 ≡ false) → ⊥
+never_past a b some fails = eqb-false (a * (1 + (b - 1)) % b) 0 (fails (b - 1) (omega arith)) (last a b some)
+
 -- a number, for a start and the periods of tasks: a positive multiple of both that divides every such one
 record IsJoint (start : ℕ) (tasks : List Task) (n : ℕ) : Type 0 where
   positive : 1 ≤ n
@@ -104,3 +120,15 @@ hyperperiod_is_least tasks some =
           le_of_dvd positive (h.divides_all m (one-dvd m)
           (Each-weaker (λ task. m % task.period ≡ 0) _ (λ task z. dvd_of_mod-eq-zero task.period z) tasks (recursion_from_All (λ task. m % task.period ≡ 0) tasks e)));
     }
+
+-- the hyperperiod of the first tasks is at most that of all
+pub hyperperiod_of_fewer : (tasks : List Task) (n : ℕ) → All (λ task. 1 ≤ task.period) tasks → hyperperiod (take n tasks) ≤ hyperperiod tasks
+hyperperiod_of_fewer tasks n some =
+    let all = hyperperiod_is_least tasks some in
+    let fewer = hyperperiod_is_least (take n tasks) (All-take (λ task. 1 ≤ task.period) n tasks some) in
+    fewer.least (hyperperiod tasks) all.positive (All-take (λ task. hyperperiod tasks % task.period ≡ 0) n tasks all.multiple)
+
+-- one task more
+pub hyperperiod_more : (tasks : List Task) (i : ℕ) (d : Task) → i < length tasks →
+    hyperperiod (take (i + 1) tasks) ≡ least_common_multiple (hyperperiod (take i tasks)) (get_or tasks i d).period
+hyperperiod_more tasks i d low = fold_more (λ a task. least_common_multiple a task.period) 1 tasks i d low

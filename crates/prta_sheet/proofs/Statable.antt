@@ -19,7 +19,7 @@ rises xs up k (suc more) low =
     rw next (omega arith)
 
 -- each time of a table is at most the greatest
-time_within : (pairs : Table) → IsTable pairs → (k : ℕ) (d : ℕ × ℕ) → k < length pairs → (get_or pairs k d).0 ≤ greatest pairs
+pub time_within : (pairs : Table) → IsTable pairs → (k : ℕ) (d : ℕ × ℕ) → k < length pairs → (get_or pairs k d).0 ≤ greatest pairs
 time_within pairs is k d low =
     let size : length (times pairs) ≡ length pairs = length-map pairs (λ pair. pair.0) in
     let last : k + (length pairs - 1 - k) ≡ length pairs - 1 = omega arith in

@@ -10,6 +10,13 @@ pub mod Laws
 pub mod Worked
 pub mod Accepted
 pub mod Document
-pub mod Short
-pub mod Gives
 pub mod Canonical
+pub mod Format
+pub mod DocumentConditions
+pub mod Rows
+pub mod SheetConditions
+pub mod Stated
+pub mod Reading
+pub mod Refusal
+pub mod RefusedSheets
+pub mod RoundTrip

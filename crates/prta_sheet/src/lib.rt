@@ -1,10 +1,12 @@
 //! Sheets of tasks, and the model of the scheduled machine that all bounds are about.
 #![tactic(auto)]
 
+mod conditions;
 mod count;
 mod document;
 mod fault;
 mod limits;
+mod making;
 mod model;
 mod reading;
 mod settings;
@@ -15,16 +17,17 @@ mod tests;
 mod text;
 mod work;
 
-pub use fault::SheetFault;
+pub use fault::{Key, Place, SheetFault};
 pub use limits::{
     JOB_LIMIT, NAME_LIMIT, PERIOD_LIMIT, SHEET_LIMIT, TASK_LIMIT, TIME_LIMIT, WORK_LIMIT,
 };
+pub use making::make_sheet;
 pub use model::{
     first_job_alone, hyperperiod_is_least, one_job, quotients_are_around, releases_before,
     served_first, sums_over_assignments, worked_values,
 };
-pub use reading::read_sheet;
+pub use reading::{read_sheet, refused_sheets};
 pub use settings::Settings;
 pub use sheet::Sheet;
 pub use task::Task;
-pub use text::{accepted_are_statable, sheet_text, text_states_sheet};
+pub use text::{accepted_are_statable, canonical_is_read, sheet_text, text_states_sheet};

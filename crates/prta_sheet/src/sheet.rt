@@ -1,10 +1,10 @@
 //! Sheets.
 
-ghost use Rattle.std.specs.Prelude.{◌≡◌, ◌<◌, ◌∷◌, [], length, IfOk};
-ghost use Rattle.prta_sheet.specs.Sheet.{Sheet as SheetParts, hyperperiod, horizon};
+ghost use Rattle.std.specs.Prelude.{◌≡◌, ◌<◌, length, IfOk};
+ghost use Rattle.prta_sheet.specs.Sheet.{hyperperiod as hyperperiod_of, horizon};
 ghost use Rattle.prta_sheet.specs.Counts.{job_count, all_jobs};
 ghost use Rattle.prta_sheet.specs.Work.{work};
-ghost use Rattle.prta_sheet.specs.Accepted.{IsAccepted, AreSettings, IsTask};
+ghost use Rattle.prta_sheet.specs.Accepted.{IsAccepted};
 
 use crate::count::count_jobs;
 use crate::settings::Settings;
@@ -60,7 +60,7 @@ impl Sheet {
 
     /// The least common multiple of the periods, in ticks.
     pub fn hyperperiod(&self) -> u64
-        ensures hyperperiod { result ≡ hyperperiod self.now.tasks }
+        ensures hyperperiod { result ≡ hyperperiod_of self.now.tasks }
         ensures accepted { IsAccepted self.now }
     {
         self.hyperperiod
@@ -108,21 +108,17 @@ impl Sheet {
         })
     }
 
-    // A sheet of one task, analysed over one hyperperiod: it has one job.
-    pub(crate) fn of_task(alloc: Global, settings: Settings, task: Task) -> Result<Sheet, NoMemory>
-        requires settings { AreSettings settings }
-        requires once { settings.hyperperiods ≡ 1 }
-        requires task { IsTask settings.cap task }
-        ensures { IfOk result (λ sheet. sheet ≡ record { settings = settings; tasks = task ∷ [] }) }
+    // The sheet of parts that meet all conditions.
+    pub(crate) fn of_parts(settings: Settings, tasks: Vec<Task>, hyperperiod: u64) -> Sheet
+        requires accepted { IsAccepted (record { settings = settings; tasks = tasks.items }) }
+        requires hyperperiod { hyperperiod ≡ hyperperiod_of tasks.items }
+        ensures { result ≡ record { settings = settings; tasks = tasks.items } }
     {
-        let hyperperiod = task.period() as u64;
-        let mut tasks = Vec::new(alloc);
-        tasks.push(task)?;
-        Ok(Sheet {
+        Sheet {
             settings,
             tasks,
             hyperperiod,
-        })
+        }
     }
 }
 

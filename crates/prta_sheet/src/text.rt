@@ -1,19 +1,25 @@
 //! The canonical text of a sheet.
 
-ghost use Rattle.std.specs.Prelude.{◌≡◌, ◌++◌, IfOk, OnOk, decimal, flat_map};
+ghost use Rattle.std.specs.Prelude.{◌≡◌, ◌++◌, None, Some, IfOk, OnOk, decimal, flat_map};
+ghost use Rattle.prta_sheet.specs.Stated.{sheet_stated};
+ghost use Rattle.prta_sheet.specs.Refusal.{refusal};
 ghost use Rattle.prta_sheet.specs.Canonical.{number_line, support_line, support_text, settings_text, name_line, pair_text, next_pair_text, pairs_text, times_line, allow_line, task_text, canonical_text, TextStatesSheet, AcceptedAreStatable};
+ghost use Rattle.prta_sheet.specs.RoundTrip.{CanonicalIsRead};
 
 use crate::settings::Settings;
 use crate::sheet::Sheet;
 use crate::task::Task;
 use itoa::Buffer;
-use prta_mass::{NoMemory, Support};
+use prta_mass::{NoMemory, Support, faultless_pairs};
 use std::alloc::Global;
 
-/// The text that has all keys of a sheet, the defaults too.
+/// The text that has all keys of a sheet, the defaults too. Reading it gives an equal sheet.
 pub fn sheet_text(alloc: Global, sheet: &Sheet) -> Result<Vec<u8>, NoMemory>
-    ensures { IfOk result (λ text. text.items ≡ canonical_text sheet.now) }
+    ensures text { IfOk result (λ text. text.items ≡ canonical_text sheet.now) }
+    ensures accepted { IfOk result (λ text. refusal text.items ≡ None) }
+    ensures states { IfOk result (λ text. sheet_stated text.items ≡ Some sheet.now) }
 {
+    canonical_is_read();
     let mut text = Vec::new(alloc);
     push_settings(&mut text, sheet.settings())?;
     for task in sheet.tasks() {
@@ -156,3 +162,10 @@ pub fn text_states_sheet()
 pub fn accepted_are_statable()
     ensures { AcceptedAreStatable }
 {}
+
+/// The canonical text of an accepted sheet is accepted, and states that very sheet.
+pub fn canonical_is_read()
+    ensures { CanonicalIsRead }
+{
+    faultless_pairs();
+}

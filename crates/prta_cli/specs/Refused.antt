@@ -1,0 +1,62 @@
+-- The line on err for a refused sheet: the number of the condition, and where or by what it failed.
+use Rattle.std.specs.Prelude.{ℕ, List, [], ◌++◌, codes, decimal}
+use Rattle.prta_sheet.specs.declared.fault.Place.{Place}
+use Rattle.prta_sheet.specs.declared.fault.Place.TheVariants as place
+use Rattle.prta_sheet.specs.declared.fault.Key.{Key}
+use Rattle.prta_sheet.specs.declared.fault.Key.TheVariants as key
+use Rattle.prta_sheet.specs.declared.fault.SheetFault.{SheetFault}
+use Rattle.prta_sheet.specs.declared.fault.SheetFault.TheVariants.{TooLong, NotToml, Format, UnknownKey, MissingKey, WrongKind, OutOfRange, TaskCount, BadName, RepeatedName, OffsetNotBelowPeriod, BadTable, TotalTooLarge, DeadlineNotBelowCap, HyperperiodTooLarge, TooManyJobs, TooMuchWork, NoMemory}
+use Rattle.prta_sheet.specs.Refusal.{number_of}
+
+abbrev pub key_text : Key → List ℕ
+key_text key.Format = codes "format"
+key_text key.Cap = codes "cap"
+key_text key.Hyperperiods = codes "hyperperiods"
+key_text key.Turns = codes "turns"
+key_text key.Support = codes "support"
+key_text key.Fine = codes "fine"
+key_text key.Step = codes "step"
+key_text key.Task = codes "task"
+key_text key.Name = codes "name"
+key_text key.Offset = codes "offset"
+key_text key.Period = codes "period"
+key_text key.Deadline = codes "deadline"
+key_text key.Times = codes "times"
+key_text key.Allow = codes "allow"
+
+unfoldable pub at_task : ℕ → List ℕ
+at_task i = codes " at task " ++ decimal i
+
+abbrev pub at_place : Place → List ℕ
+at_place place.Top = codes " at top"
+at_place place.Support = codes " at support"
+at_place (place.Task i) = at_task i
+
+unfoldable pub at_key : Place → Key → List ℕ
+at_key p k = at_place p ++ codes " key " ++ key_text k
+
+unfoldable pub with_value : ℕ → List ℕ
+with_value n = codes " value " ++ decimal n
+
+abbrev pub tail : SheetFault → List ℕ
+tail TooLong = []
+tail NotToml = []
+tail Format = []
+tail (UnknownKey p) = at_place p
+tail (MissingKey p k) = at_key p k
+tail (WrongKind p k) = at_key p k
+tail (OutOfRange p k) = at_key p k
+tail (TaskCount n) = with_value n
+tail (BadName i) = at_task i
+tail (RepeatedName i) = at_task i
+tail (OffsetNotBelowPeriod i) = at_task i
+tail (BadTable i f) = at_task i
+tail (TotalTooLarge i) = at_task i
+tail (DeadlineNotBelowCap i) = at_task i
+tail HyperperiodTooLarge = []
+tail (TooManyJobs n) = with_value n
+tail (TooMuchWork n) = with_value n
+tail NoMemory = []
+
+unfoldable pub refused_line : SheetFault → List ℕ
+refused_line fault = codes "prta: sheet refused " ++ decimal (number_of fault) ++ tail fault ++ codes "\n"

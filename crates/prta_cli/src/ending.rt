@@ -1,0 +1,51 @@
+//! How a command ended, with what err is told.
+
+ghost use Rattle.std.specs.Prelude.{◌≡◌};
+ghost use Rattle.prta_cli.specs.Ending.{status_of, line_of};
+
+use crate::status::Status;
+use prta_report::Page;
+
+/// A status, and for a refused sheet the line that tells why.
+#[derive(Debug, Drop)]
+pub enum Ending {
+    Done,
+    Usage,
+    SheetRefused(Page),
+    ReadFault,
+    WriteFault,
+    NoMemory,
+    NotYet,
+}
+
+impl Ending {
+    /// The status alone.
+    pub fn status(&self) -> Status
+        ensures { result ≡ status_of self.now }
+    {
+        match self {
+            Ending::Done => Status::Done,
+            Ending::Usage => Status::Usage,
+            Ending::SheetRefused(_) => Status::SheetRefused,
+            Ending::ReadFault => Status::ReadFault,
+            Ending::WriteFault => Status::WriteFault,
+            Ending::NoMemory => Status::NoMemory,
+            Ending::NotYet => Status::NotYet,
+        }
+    }
+
+    /// The line on err; none where the text was taken.
+    pub fn line(&self) -> &[u8]
+        ensures { result.now ≡ line_of self.now }
+    {
+        match self {
+            Ending::Done => b"",
+            Ending::Usage => b"prta: usage\n",
+            Ending::SheetRefused(page) => page.bytes(),
+            Ending::ReadFault => b"prta: read fault\n",
+            Ending::WriteFault => b"prta: write fault\n",
+            Ending::NoMemory => b"prta: no memory\n",
+            Ending::NotYet => b"prta: not yet\n",
+        }
+    }
+}

@@ -1,0 +1,125 @@
+-- What is read of a document is in its ranges, whatever stands there.
+use Rattle.std.proofs.Common.{◌≡◌, ℕ, ℤ, pos, negsuc, ◌^◌, Bool, true, false, ◌&&◌, nat_le, nat_lt, Option, Some, None, unwrap_or, List, codes, length, refl, subst, arith, All}
+use Rattle.std.specs.List.{list_any}
+use Rattle.std.proofs.lemmas.Bool.{and_parts, cond_both}
+use Rattle.std.proofs.lemmas.Bool.Decides.{nat_tests}
+use Rattle.std.proofs.lemmas.List.Elements.{All-nil, All-cons}
+use Rattle.toml.specs.Data.{Items, no_items, item, Members, get_member, as_table, as_array, as_integer}
+use Rattle.prta_sheet.specs.declared.limits.TheConstants.{TIME_LIMIT}
+use Rattle.prta_sheet.specs.declared.fault.Key.{Key}
+use Rattle.prta_sheet.specs.declared.fault.Place.{Place}
+use Rattle.prta_sheet.specs.declared.conditions.Condition.TheVariants.{Range}
+use Rattle.prta_sheet.specs.Sheet.{Task, Sheet}
+use Rattle.prta_sheet.specs.Document.{◌>>=◌}
+use Rattle.prta_sheet.specs.DocumentConditions.{first_fault}
+use Rattle.prta_sheet.specs.SheetConditions.{in_range, support_ranges, settings_ranges, times_range, allow_range, task_ranges, part_ranges}
+use Rattle.prta_sheet.specs.Stated.{stated}
+use Rattle.prta_sheet.specs.Reading.{within, natural, share_in, point_in, points_of_items, points_of, read_task, with_read_task, read_task_items, read_tasks, read_support, read_settings, read}
+use Rattle.prta_sheet.proofs.FirstOf.{both_none, when_false, none_below}
+use Rattle.prta_sheet.proofs.ReadsStated.{reads}
+
+abbrev is_between : ℕ → ℕ → ℕ → Bool
+is_between low high n = nat_le low n && nat_le n high
+
+-- a number that is read is none, or one from low to high
+by_range : (low high : ℕ) (P : Option ℕ → Type 0) → P None → ((n : ℕ) → is_between low high n ≡ true → P (Some n)) → (value : Option ℤ) → P (value >>= within low high)
+by_range low high P none some None = none
+by_range low high P none some (Some (pos n)) = cond_both (is_between low high n) (Some n) None P (some n) (λ _. none)
+by_range low high P none some (Some (negsuc n)) = none
+
+-- a number of the settings or of a task
+number_in_range : (at : Place) (key : Key) (low high default : ℕ) → is_between low high default ≡ true → (value : Option ℤ)
+    → in_range at key low high (unwrap_or (value >>= within low high) default) ≡ None
+number_in_range at key low high default fits value =
+    by_range low high (λ o. in_range at key low high (unwrap_or o default) ≡ None) (rw fits refl) (λ n is. rw is refl) value
+
+-- ---- times
+
+-- the time of a point is in range; none counts as 0
+abbrev IsEarly : Option (ℕ × ℕ) → Type 0
+IsEarly point = nat_lt TIME_LIMIT (unwrap_or {T = ℕ × ℕ} point (0, 0)).0 ≡ false
+
+with_weight : (time : ℕ) → is_between 0 TIME_LIMIT time ≡ true → (weight : Option ℤ) → IsEarly (weight >>= natural >>= (λ w. Some (time, w)))
+with_weight time is None = refl
+with_weight time is (Some (pos w)) = let (low, high) = and_parts (nat_le 0 time) (nat_le time TIME_LIMIT) is in grind (arith, nat_tests)
+with_weight time is (Some (negsuc w)) = refl
+
+point_in_range : (items : Option Items) → IsEarly (items >>= point_in)
+point_in_range (Some (item time (item weight no_items))) =
+    by_range 0 TIME_LIMIT (λ o. IsEarly (o >>= (λ c. as_integer weight >>= natural >>= (λ w. Some (c, w)))))
+    refl (λ c is. with_weight c is (as_integer weight)) (as_integer time)
+point_in_range _ = refl
+
+points_in_range : (items : Items) → list_any (λ (pair : ℕ × ℕ). nat_lt TIME_LIMIT pair.0) (points_of_items items) ≡ false
+points_in_range no_items = refl
+points_in_range (item first rest) = rw (point_in_range (as_array first)) (points_in_range rest)
+
+times_in_range : (i : ℕ) (items : Option Items) → times_range i (points_of items) ≡ None
+times_in_range i None = refl
+times_in_range i (Some items) = when_false _ _ (points_in_range items)
+
+-- ---- the allowance
+
+-- a share is in range; none counts as 0 of 1
+abbrev IsShareAt : ℕ → Option (ℕ × ℕ) → Type 0
+IsShareAt i share = allow_range i (unwrap_or share (0, 1)) ≡ None
+
+with_part : (i whole : ℕ) → is_between 1 (10 ^ 18) whole ≡ true → (part : Option ℤ) → IsShareAt i (part >>= within 0 whole >>= (λ p. Some (p, whole)))
+with_part i whole is part =
+    by_range 0 whole (λ o. IsShareAt i (o >>= (λ p. Some (p, whole))))
+    refl (λ p small. rw (is, (and_parts (nat_le 0 p) (nat_le p whole) small).1) refl) part
+
+share_in_range : (i : ℕ) (items : Option Items) → IsShareAt i (items >>= share_in)
+share_in_range i (Some (item p (item q no_items))) =
+    by_range 1 (10 ^ 18) (λ o. IsShareAt i (o >>= (λ whole. as_integer p >>= within 0 whole >>= (λ part. Some (part, whole)))))
+    refl (λ whole is. with_part i whole is (as_integer p)) (as_integer q)
+share_in_range i _ = refl
+
+-- ---- tasks, settings and the sheet
+
+task_in_range : (members : Members) (i : ℕ) → task_ranges i (read_task members) ≡ None
+task_in_range members i =
+    both_none _ _ (number_in_range _ _ 0 999999 0 refl (get_member (codes "offset") members >>= as_integer))
+    (both_none _ _ (number_in_range _ _ 1 1000000 1 refl (get_member (codes "period") members >>= as_integer))
+    (both_none _ _ (number_in_range _ _ 1 1000000 1 refl (get_member (codes "deadline") members >>= as_integer))
+    (both_none _ _ (times_in_range i (get_member (codes "times") members >>= as_array))
+    (share_in_range i (get_member (codes "allow") members >>= as_array)))))
+
+-- the task is in its ranges, at every number
+abbrev IsTaskInRange : Task → Type 0
+IsTaskInRange task = (i : ℕ) → task_ranges i task ≡ None
+
+one_more : (element : Option Members) (tasks : List Task) → All IsTaskInRange tasks → All IsTaskInRange (with_read_task element tasks)
+one_more None tasks rest = rest
+one_more (Some members) tasks rest = All-cons IsTaskInRange (read_task members) tasks (task_in_range members) rest
+
+items_in_range : (items : Items) → All IsTaskInRange (read_task_items items)
+items_in_range no_items = All-nil IsTaskInRange
+items_in_range (item first rest) = one_more (as_table first) (read_task_items rest) (items_in_range rest)
+
+tasks_in_range : (items : Option Items) → All IsTaskInRange (read_tasks items)
+tasks_in_range None = All-nil IsTaskInRange
+tasks_in_range (Some items) = items_in_range items
+
+support_in_range : (members : Option Members) → support_ranges (read_support members) ≡ None
+support_in_range None = refl
+support_in_range (Some members) =
+    both_none _ _ (number_in_range _ _ 0 16383 0 refl (get_member (codes "fine") members >>= as_integer))
+    (number_in_range _ _ 1 16384 1 refl (get_member (codes "step") members >>= as_integer))
+
+settings_in_range : (doc : Members) → settings_ranges (read_settings doc) ≡ None
+settings_in_range doc =
+    both_none _ _ (number_in_range _ _ 3 16384 2048 refl (get_member (codes "cap") doc >>= as_integer))
+    (both_none _ _ (number_in_range _ _ 1 64 1 refl (get_member (codes "hyperperiods") doc >>= as_integer))
+    (both_none _ _ (number_in_range _ _ 0 64 16 refl (get_member (codes "turns") doc >>= as_integer))
+    (support_in_range (get_member (codes "support") doc >>= as_table))))
+
+-- what is read is always in its ranges
+pub read_in_range : (doc : Members) → part_ranges (read doc) ≡ None
+read_in_range doc =
+    let items = get_member (codes "task") doc >>= as_array in
+    both_none _ _ (settings_in_range doc) (none_below _ (length (read_tasks items)) (λ i low. tasks_in_range items i _ low i))
+
+-- what is stated is in its ranges where the document's values are
+pub stated_in_range : (doc : Members) → first_fault Range doc ≡ None → part_ranges (stated doc) ≡ None
+stated_in_range doc h = subst (λ (sheet : Sheet). part_ranges sheet ≡ None) (reads doc h) (read_in_range doc)

@@ -1,0 +1,8 @@
+use Rattle.std.proofs.Common.{◌∙◌}
+use Rattle.toml.specs.View.{view}
+use Rattle.prta_sheet.specs.Format.{is_table}
+use Rattle.prta_sheet.proofs.Items.{is_array_of_values}
+use Rattle.prta_sheet.proofs.conditions.are_tables.Goals as goal
+
+pub returns-in-Some : goal.returns-in-Some
+returns-in-Some c = c.each_is_table.ensures ∙ is_array_of_values is_table (view c.args.value.now) c.in-Some.items.now.items c.in-Some.ensures

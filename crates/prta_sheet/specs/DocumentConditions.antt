@@ -1,0 +1,86 @@
+-- The conditions on a sheet's document: the key `format`, and in each of its tables the keys, their kinds and their ranges.
+use Rattle.std.specs.Prelude.{ℕ, Bool, false, not, ◌+◌, ◌&&◌, nat_eq, is_none, Option, Some, None, List, [], ◌∷◌, ◌++◌, codes, bytes_eq, pos}
+use Rattle.std.specs.List.{list_all, list_any}
+use Rattle.std.specs.Option.{option_map_or}
+use Rattle.toml.specs.Data.{Data, integer, Items, no_items, item, Members, get_member, as_table}
+use Rattle.prta_mass.specs.Table.{or_else, when}
+use Rattle.prta_sheet.specs.declared.fault.Key.{Key}
+use Rattle.prta_sheet.specs.declared.fault.Place.{Place}
+use Rattle.prta_sheet.specs.declared.fault.Place.TheVariants.{Top, Support, Task}
+use Rattle.prta_sheet.specs.declared.fault.SheetFault.{SheetFault}
+use Rattle.prta_sheet.specs.declared.fault.SheetFault.TheVariants.{Format, UnknownKey, MissingKey, WrongKind, OutOfRange}
+use Rattle.prta_sheet.specs.declared.conditions.Condition.{Condition}
+use Rattle.prta_sheet.specs.declared.conditions.Condition.TheVariants.{Listed, Needed, Kind, Range}
+use Rattle.prta_sheet.specs.Format.{Row, top_rows, support_rows, task_rows}
+use Rattle.prta_sheet.specs.Document.{keys_of, table_at, array_at}
+
+-- the first answer along a list
+abbrev pub first_of : {X Y : Type 0} → (X → Option Y) → List X → Option Y
+first_of f [] = None
+first_of f (x ∷ xs) = or_else (f x) (first_of f xs)
+
+-- ---- the tables of a document
+
+-- a table of the document, with the rows that list its keys
+pub record Spot : Type 0 where
+  pub at : Place
+  pub rows : List Row
+  pub table : Members
+
+abbrev pub spot : Place → List Row → Option Members → List Spot
+spot at rows None = []
+spot at rows (Some table) = record { at = at; rows = rows; table = table } ∷ []
+
+-- the elements of `task` that are tables; the elements are counted from i
+abbrev pub task_spots : ℕ → Items → List Spot
+task_spots i no_items = []
+task_spots i (item first rest) = spot (Task i) task_rows (as_table first) ++ task_spots (i + 1) rest
+
+abbrev pub all_task_spots : Option Items → List Spot
+all_task_spots None = []
+all_task_spots (Some items) = task_spots 0 items
+
+-- the top, `support` where it is a table, and the tables of `task` in order
+abbrev pub spots : Members → List Spot
+spots doc =
+    spot Top top_rows (Some doc)
+    ++ spot Support support_rows (table_at (codes "support") doc)
+    ++ all_task_spots (array_at (codes "task") doc)
+
+-- ---- the conditions
+
+-- the value of `format` is the integer 1
+abbrev pub is_format : Option Data → Bool
+is_format (Some (integer (pos n))) = nat_eq n 1
+is_format _ = false
+
+abbrev pub format_fault : Members → Option SheetFault
+format_fault doc = when (not (is_format (get_member (codes "format") doc))) Format
+
+-- the key is one of the rows'
+abbrev pub is_listed : List Row → List ℕ → Bool
+is_listed rows key = list_any (λ row. bytes_eq key row.text) rows
+
+-- the first of a table's rows whose value, or lack of one, fails
+abbrev pub first_row : (Key → SheetFault) → (Row → Option Data → Bool) → Spot → Option SheetFault
+first_row refusal fails s = first_of (λ row. when (fails row (get_member row.text s.table)) (refusal row.key)) s.rows
+
+-- what refuses a table: a key that isn't listed; a needed key that isn't there; a value of another kind; a number outside its range
+abbrev pub fault_in : Condition → Spot → Option SheetFault
+fault_in Listed s = when (not (list_all (is_listed s.rows) (keys_of s.table))) (UnknownKey s.at)
+fault_in Needed s = first_row (MissingKey s.at) (λ row value. row.needed && is_none value) s
+fault_in Kind s = first_row (WrongKind s.at) (λ row value. option_map_or (λ d. not (row.kind d)) value false) s
+fault_in Range s = first_row (OutOfRange s.at) (λ row value. option_map_or (λ d. not (row.range d)) value false) s
+
+-- the first table that a condition refuses
+abbrev pub first_fault : Condition → Members → Option SheetFault
+first_fault condition doc = first_of (fault_in condition) (spots doc)
+
+-- the first condition that fails, each over all tables before the next
+abbrev pub document_fault : Members → Option SheetFault
+document_fault doc =
+    or_else (format_fault doc)
+    (or_else (first_fault Listed doc)
+    (or_else (first_fault Needed doc)
+    (or_else (first_fault Kind doc)
+    (first_fault Range doc))))

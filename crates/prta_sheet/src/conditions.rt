@@ -1,0 +1,417 @@
+//! The conditions on a sheet's document: the key `format`, and in each of its tables the keys, their kinds and
+//! their ranges.
+
+ghost use Rattle.std.specs.Prelude.{◌≡◌, false, not, option_map, codes, string_bytes};
+ghost use Rattle.std.specs.List.{list_all};
+ghost use Rattle.std.specs.BTreeMap.{keys};
+ghost use Rattle.std.specs.Option.{option_map_or};
+ghost use Rattle.toml.specs.Data.{get_member, as_table};
+ghost use Rattle.toml.specs.View.{view, table_view, array_view};
+ghost use Rattle.prta_mass.specs.Table.{when};
+ghost use Rattle.prta_sheet.specs.declared.fault.Place.TheVariants as place;
+ghost use Rattle.prta_sheet.specs.declared.fault.SheetFault.TheVariants as fault;
+ghost use Rattle.prta_sheet.specs.Document.{table_at, array_at};
+ghost use Rattle.prta_sheet.specs.Format.{top_rows, support_rows, task_rows, is_array_of, is_table, is_pair, is_pair_with, is_share, is_time_with_weight, is_from_to};
+ghost use Rattle.prta_sheet.specs.DocumentConditions.{is_listed, format_fault, first_of, fault_in, first_fault, document_fault, spot, task_spots, all_task_spots};
+ghost use Rattle.prta_sheet.specs.Rows.{kind_of, range_of, row_of, row_fault, rows_fault};
+
+use crate::document::{array_at, integers_of, table_at, value_at};
+use crate::fault::{Key, Place, SheetFault};
+use crate::limits::TIME_LIMIT;
+use toml::value::Array;
+use toml::{Table, Value};
+
+/// What is tested of each table of a document.
+#[derive(Clone, Copy, Debug, PartialEq, Eq)]
+pub enum Condition {
+    /// Each of its keys is listed.
+    Listed,
+    /// Each needed key is there.
+    Needed,
+    /// Each value is of its kind.
+    Kind,
+    /// Each number is in its range.
+    Range,
+}
+
+/// What a key's value is.
+#[derive(Clone, Copy, Debug, PartialEq, Eq)]
+pub enum Form {
+    /// An integer from the first number to the second.
+    Integer(u32, u32),
+    Text,
+    Table,
+    /// An array of tables.
+    Tables,
+    /// An array of pairs of a time and a weight.
+    Points,
+    /// An array p, q that stands for p of q.
+    Share,
+}
+
+// The first condition that fails, each over all tables before the next.
+pub fn document_fault(document: &Table) -> Option<SheetFault>
+    ensures { result ≡ document_fault (table_view document.now) }
+{
+    format_fault(document)
+        .or(first_fault(Condition::Listed, document))
+        .or(first_fault(Condition::Needed, document))
+        .or(first_fault(Condition::Kind, document))
+        .or(first_fault(Condition::Range, document))
+}
+
+// The value of `format` is the integer 1.
+fn format_fault(document: &Table) -> Option<SheetFault>
+    ensures { result ≡ format_fault (table_view document.now) }
+{
+    match value_at(document, "format") {
+        Some(value) if value.as_integer() == Some(1) => None,
+        _ => Some(SheetFault::Format),
+    }
+}
+
+// The first table that a condition refuses.
+fn first_fault(condition: Condition, document: &Table) -> Option<SheetFault>
+    ensures { result ≡ first_fault condition (table_view document.now) }
+{
+    top_fault(condition, document)
+        .or(support_fault(condition, document))
+        .or(tasks_fault(condition, document))
+}
+
+fn support_fault(condition: Condition, document: &Table) -> Option<SheetFault>
+    ensures { result ≡ first_of (fault_in condition) (spot place.Support support_rows (table_at (codes "support") (table_view document.now))) }
+{
+    match table_at(document, "support") {
+        Some(table) => support_table_fault(condition, table),
+        None => None,
+    }
+}
+
+fn tasks_fault(condition: Condition, document: &Table) -> Option<SheetFault>
+    ensures { result ≡ first_of (fault_in condition) (all_task_spots (array_at (codes "task") (table_view document.now))) }
+{
+    match array_at(document, "task") {
+        Some(items) => items_fault(condition, items),
+        None => None,
+    }
+}
+
+// The first table among the elements of `task` that a condition refuses.
+fn items_fault(condition: Condition, items: &Array) -> Option<SheetFault>
+    ensures { result ≡ first_of (fault_in condition) (task_spots 0 (array_view items.now)) }
+{
+    for i in 0..items.len() {
+        if let Some(fault) = item_fault(condition, i, &items[i]) {
+            return Some(fault);
+        }
+    }
+    None
+}
+
+fn item_fault(condition: Condition, i: usize, item: &Value) -> Option<SheetFault>
+    ensures { result ≡ first_of (fault_in condition) (spot (place.Task i) task_rows (as_table (view item.now))) }
+{
+    match item.as_table() {
+        Some(table) => task_table_fault(condition, i, table),
+        None => None,
+    }
+}
+
+// What refuses the top.
+#[tactic(auto, using(crate::proofs::Keys::list_all_keys))]
+fn top_fault(condition: Condition, table: &Table) -> Option<SheetFault>
+    ensures { result ≡ fault_in condition (record { at = place.Top; rows = top_rows; table = table_view table.now }) }
+{
+    match condition {
+        Condition::Listed => unlisted(Place::Top, all_are_top_keys(table)),
+        Condition::Needed | Condition::Kind | Condition::Range => top_row_fault(condition, table),
+    }
+}
+
+fn top_row_fault(condition: Condition, table: &Table) -> Option<SheetFault>
+    ensures { result ≡ rows_fault condition place.Top top_rows (table_view table.now) }
+{
+    let at = Place::Top;
+    let tested = Tested {
+        condition,
+        at,
+        table,
+    };
+    tested
+        .row("format", Key::Format, true, Form::Integer(1, 1))
+        .or(tested.row("cap", Key::Cap, false, Form::Integer(3, 16_384)))
+        .or(tested.row(
+            "hyperperiods",
+            Key::Hyperperiods,
+            false,
+            Form::Integer(1, 64),
+        ))
+        .or(tested.row("turns", Key::Turns, false, Form::Integer(0, 64)))
+        .or(tested.row("support", Key::Support, false, Form::Table))
+        .or(tested.row("task", Key::Task, true, Form::Tables))
+}
+
+// What refuses the table `support`.
+#[tactic(auto, using(crate::proofs::Keys::list_all_keys))]
+fn support_table_fault(condition: Condition, table: &Table) -> Option<SheetFault>
+    ensures { result ≡ fault_in condition (record { at = place.Support; rows = support_rows; table = table_view table.now }) }
+{
+    match condition {
+        Condition::Listed => unlisted(Place::Support, all_are_support_keys(table)),
+        Condition::Needed | Condition::Kind | Condition::Range => support_row_fault(
+            condition, table,
+        ),
+    }
+}
+
+fn support_row_fault(condition: Condition, table: &Table) -> Option<SheetFault>
+    ensures { result ≡ rows_fault condition place.Support support_rows (table_view table.now) }
+{
+    let at = Place::Support;
+    let tested = Tested {
+        condition,
+        at,
+        table,
+    };
+    tested
+        .row("fine", Key::Fine, true, Form::Integer(0, 16_383))
+        .or(tested.row("step", Key::Step, true, Form::Integer(1, 16_384)))
+}
+
+// What refuses the table of the i-th element of `task`.
+#[tactic(auto, using(crate::proofs::Keys::list_all_keys))]
+fn task_table_fault(condition: Condition, i: usize, table: &Table) -> Option<SheetFault>
+    ensures { result ≡ fault_in condition (record { at = place.Task i; rows = task_rows; table = table_view table.now }) }
+{
+    match condition {
+        Condition::Listed => unlisted(Place::Task(i), all_are_task_keys(table)),
+        Condition::Needed | Condition::Kind | Condition::Range => task_row_fault(
+            condition, i, table,
+        ),
+    }
+}
+
+fn task_row_fault(condition: Condition, i: usize, table: &Table) -> Option<SheetFault>
+    ensures { result ≡ rows_fault condition (place.Task i) task_rows (table_view table.now) }
+{
+    let at = Place::Task(i);
+    let tested = Tested {
+        condition,
+        at,
+        table,
+    };
+    tested
+        .row("name", Key::Name, true, Form::Text)
+        .or(tested.row("offset", Key::Offset, false, Form::Integer(0, 999_999)))
+        .or(tested.row("period", Key::Period, true, Form::Integer(1, 1_000_000)))
+        .or(tested.row("deadline", Key::Deadline, true, Form::Integer(1, 1_000_000)))
+        .or(tested.row("times", Key::Times, true, Form::Points))
+        .or(tested.row("allow", Key::Allow, false, Form::Share))
+}
+
+// ---- keys
+
+fn unlisted(at: Place, all_are_listed: bool) -> Option<SheetFault>
+    ensures { result ≡ when (not all_are_listed) (fault.UnknownKey at) }
+{
+    (!all_are_listed).then_some(SheetFault::UnknownKey(at))
+}
+
+fn all_are_top_keys(table: &Table) -> bool
+    ensures { result ≡ list_all (λ key. is_listed top_rows (string_bytes key)) (keys table.now) }
+{
+    table.keys().all(|key| is_top_key(key.as_str()))
+}
+
+fn is_top_key(key: &str) -> bool
+    ensures { result ≡ is_listed top_rows key.now }
+{
+    (key == "format" || key == "cap" || key == "hyperperiods")
+        || (key == "turns" || key == "support" || key == "task")
+}
+
+fn all_are_support_keys(table: &Table) -> bool
+    ensures { result ≡ list_all (λ key. is_listed support_rows (string_bytes key)) (keys table.now) }
+{
+    table.keys().all(|key| is_support_key(key.as_str()))
+}
+
+fn is_support_key(key: &str) -> bool
+    ensures { result ≡ is_listed support_rows key.now }
+{
+    key == "fine" || key == "step"
+}
+
+fn all_are_task_keys(table: &Table) -> bool
+    ensures { result ≡ list_all (λ key. is_listed task_rows (string_bytes key)) (keys table.now) }
+{
+    table.keys().all(|key| is_task_key(key.as_str()))
+}
+
+fn is_task_key(key: &str) -> bool
+    ensures { result ≡ is_listed task_rows key.now }
+{
+    (key == "name" || key == "offset" || key == "period")
+        || (key == "deadline" || key == "times" || key == "allow")
+}
+
+// ---- rows
+
+// A table of the document that is tested, and its place.
+#[derive(Clone, Copy)]
+struct Tested<'a> {
+    condition: Condition,
+    at: Place,
+    table: &'a Table,
+}
+
+impl<'a> Tested<'a> {
+    // What refuses the value at a key, or the lack of one.
+    fn row(&self, text: &str, key: Key, needed: bool, form: Form) -> Option<SheetFault>
+        ensures { result ≡ row_fault self.now.condition self.now.at (row_of text.now key needed form) (get_member text.now (table_view self.now.table.now)) }
+    {
+        let value = value_at(self.table, text);
+        match self.condition {
+            Condition::Listed => None,
+            Condition::Needed => {
+                (needed && value.is_none()).then_some(SheetFault::MissingKey(self.at, key))
+            }
+            Condition::Kind => {
+                is_of_other_kind(form, value).then_some(SheetFault::WrongKind(self.at, key))
+            }
+            Condition::Range => {
+                is_out_of_range(form, value).then_some(SheetFault::OutOfRange(self.at, key))
+            }
+        }
+    }
+}
+
+fn is_of_other_kind(form: Form, value: Option<&Value>) -> bool
+    ensures { result ≡ option_map_or (λ d. not (kind_of form d)) (option_map (λ v. view v.now) value.entry) false }
+{
+    match value {
+        Some(value) => !has_kind(form, value),
+        None => false,
+    }
+}
+
+fn is_out_of_range(form: Form, value: Option<&Value>) -> bool
+    ensures { result ≡ option_map_or (λ d. not (range_of form d)) (option_map (λ v. view v.now) value.entry) false }
+{
+    match value {
+        Some(value) => !is_in_range(form, value),
+        None => false,
+    }
+}
+
+fn has_kind(form: Form, value: &Value) -> bool
+    ensures { result ≡ kind_of form (view value.now) }
+{
+    match form {
+        Form::Integer(_, _) => value.is_integer(),
+        Form::Text => value.is_str(),
+        Form::Table => value.is_table(),
+        Form::Tables => are_tables(value),
+        Form::Points => are_pairs(value),
+        Form::Share => is_pair(value),
+    }
+}
+
+fn is_in_range(form: Form, value: &Value) -> bool
+    ensures { result ≡ range_of form (view value.now) }
+{
+    match form {
+        Form::Integer(low, high) => is_from_to(low, high, value),
+        Form::Text | Form::Table | Form::Tables => true,
+        Form::Points => are_points(value),
+        Form::Share => is_share(value),
+    }
+}
+
+fn is_from_to(low: u32, high: u32, value: &Value) -> bool
+    ensures { result ≡ is_from_to low high (view value.now) }
+{
+    match value.as_integer() {
+        Some(n) => low as i64 <= n && n <= high as i64,
+        None => false,
+    }
+}
+
+// An array of tables.
+fn are_tables(value: &Value) -> bool
+    ensures { result ≡ is_array_of is_table (view value.now) }
+{
+    match value.as_array() {
+        Some(items) => each_is_table(items),
+        None => false,
+    }
+}
+
+fn each_is_table(items: &Array) -> bool
+    ensures { result ≡ list_all (λ v. is_table (view v)) items.now.items }
+{
+    items.iter().all(|item| item.is_table())
+}
+
+// An array of pairs of integers.
+fn are_pairs(value: &Value) -> bool
+    ensures { result ≡ is_array_of is_pair (view value.now) }
+{
+    match value.as_array() {
+        Some(items) => each_is_pair(items),
+        None => false,
+    }
+}
+
+fn each_is_pair(items: &Array) -> bool
+    ensures { result ≡ list_all (λ v. is_pair (view v)) items.now.items }
+{
+    items.iter().all(|item| is_pair(item))
+}
+
+#[tactic(auto, using(crate::proofs::Items::is_pair_with_integers))]
+fn is_pair(value: &Value) -> bool
+    ensures { result ≡ is_pair (view value.now) }
+{
+    integers_of(value).is_some()
+}
+
+// An array of pairs in the ranges of a time and a weight.
+fn are_points(value: &Value) -> bool
+    ensures { result ≡ is_array_of (is_pair_with is_time_with_weight) (view value.now) }
+{
+    match value.as_array() {
+        Some(items) => each_is_point(items),
+        None => false,
+    }
+}
+
+fn each_is_point(items: &Array) -> bool
+    ensures { result ≡ list_all (λ v. (is_pair_with is_time_with_weight) (view v)) items.now.items }
+{
+    items.iter().all(|item| is_point(item))
+}
+
+#[tactic(auto, using(crate::proofs::Items::is_pair_with_integers))]
+fn is_point(value: &Value) -> bool
+    ensures { result ≡ is_pair_with is_time_with_weight (view value.now) }
+{
+    match integers_of(value) {
+        Some((time, weight)) => 0 <= time && time <= TIME_LIMIT as i64 && 0 <= weight,
+        None => false,
+    }
+}
+
+// An array p, q in the ranges of an allowance.
+#[tactic(auto, using(crate::proofs::Items::is_pair_with_integers))]
+fn is_share(value: &Value) -> bool
+    ensures { result ≡ is_pair_with is_share (view value.now) }
+{
+    match integers_of(value) {
+        Some((part, whole)) => {
+            1 <= whole && whole <= 1_000_000_000_000_000_000 && 0 <= part && part <= whole
+        }
+        None => false,
+    }
+}
