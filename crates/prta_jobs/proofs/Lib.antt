@@ -1,0 +1,5 @@
+pub mod NextRelease
+pub mod Levels
+pub mod JobLists
+pub mod OrderLists
+pub mod Counting
