@@ -13,11 +13,11 @@ use Rattle.prta_sheet.specs.Job.{Job, table_of, is_release, released_at, jobs_be
 use Rattle.prta_sheet.specs.Assignment.{Timed, total_of}
 use Rattle.prta_sheet.specs.Machine.{place, goes_before, misses}
 use Rattle.prta_sheet.specs.Chance.{miss_weight, chance_total}
-use Rattle.prta_sheet.specs.Weights.{one_if, weigh}
+use Rattle.prta_sheet.specs.Weights.{one_if, weigh, jobs_of}
 use Rattle.prta_sheet.specs.Laws.{weight_above, first_job_of, FirstJobAlone, QuotientsAreAround, OneJob}
 use Rattle.prta_sheet.proofs.Each.{Each-append, Each-weaker, Each-from_map}
 use Rattle.prta_sheet.proofs.Sums.{sum_by-same, sum_by-times, sum_by-filter}
-use Rattle.prta_sheet.proofs.Weighing.{jobs_of, listed_passing, weigh-same_on, weigh_constant}
+use Rattle.prta_sheet.proofs.Weighing.{listed_passing, weigh-same_on, weigh_constant}
 use Rattle.prta_sheet.proofs.First.{served_first}
 use Rattle.prta_sheet.proofs.OneTask.{hyperperiod_of_one}
 

@@ -10,7 +10,7 @@ use Rattle.prta_sheet.specs.Counts.{releases}
 use Rattle.prta_sheet.specs.Assignment.{Timed, assignments, weight_of, times_of, total_of}
 use Rattle.prta_sheet.specs.Machine.{goes_before, after, remaining}
 use Rattle.prta_sheet.specs.Chance.{miss_weight, chance_total, IsAround}
-use Rattle.prta_sheet.specs.Weights.{one_if, weigh}
+use Rattle.prta_sheet.specs.Weights.{one_if, weigh, jobs_of}
 
 -- sums over the list of all assignments are sums by recursion over the jobs
 pub record SumsOverAssignments : Type 0 where
@@ -19,6 +19,13 @@ pub record SumsOverAssignments : Type 0 where
       sum_by weight_of (filter (λ a. p (times_of a)) (assignments table jobs)) ≡ weigh table jobs (λ a. one_if (p a))
   -- the weights of all assignments
   pub all : (table : Job → Table) (jobs : List Job) → weigh table jobs (λ a. 1) ≡ total_of table jobs
+
+-- a job on whose time a number doesn't depend multiplies the sum over the assignments by its table's total, wherever it is listed
+abbrev pub IndependentJob : Type 0
+IndependentJob =
+    (table : Job → Table) (before : List Job) (job : Job) (after : List Job) (f g : List Timed → ℕ) →
+    ((a : List Timed) (time : ℕ) (b : List Timed) → jobs_of a ≡ before → jobs_of b ≡ after → f (a ++ record { job = job; time = time } ∷ b) ≡ g (a ++ b)) →
+    weigh table (before ++ job ∷ after) f ≡ total (table job) * weigh table (before ++ after) g
 
 -- a job that goes before every other listed job is served at each tick from its release on, until its time is used up
 abbrev pub ServedFirst : Type 0

@@ -1,7 +1,7 @@
 //! Laws of the model, without code, and what its definitions give on worked values.
 
 ghost use Rattle.prta_sheet.specs.Worked.{WorkedValues};
-ghost use Rattle.prta_sheet.specs.Laws.{SumsOverAssignments, ServedFirst, FirstJobAlone, QuotientsAreAround, OneJob, HyperperiodIsLeast, ReleasesBefore};
+ghost use Rattle.prta_sheet.specs.Laws.{SumsOverAssignments, IndependentJob, ServedFirst, FirstJobAlone, QuotientsAreAround, OneJob, HyperperiodIsLeast, ReleasesBefore};
 
 /// The definitions of the model on small sheets: chances of a miss, finishes and the machine's trace.
 pub fn worked_values()
@@ -11,6 +11,11 @@ pub fn worked_values()
 /// A sum over the list of all assignments is a sum by recursion over the jobs.
 pub fn sums_over_assignments()
     ensures { SumsOverAssignments }
+{}
+
+/// A job on whose time a number doesn't depend multiplies its sum over all assignments by the job's total.
+pub fn independent_job()
+    ensures { IndependentJob }
 {}
 
 /// A job that goes before every other one is served from its release on, until its time is used up.
