@@ -1,0 +1,93 @@
+-- Schedule to backlog, for all jobs before a time.
+use Rattle.std.proofs.Common.{◌≡◌, ℕ, ◌+◌, ◌<◌, ◌≤◌, Bool, true, false, cond, nat_le, nat_lt, List, [], ◌∷◌, length, get_or, filter, Contains, refl, ap, sym, ◌∙◌, subst, arith}
+use Rattle.std.specs.List.{AllByRecursion as Each}
+use Rattle.std.proofs.lemmas.List.{get_or-map, length-map}
+use Rattle.std.proofs.lemmas.List.Elements.{All-contains, All-from_recursion}
+use Rattle.std.proofs.lemmas.List.Sums.{get_or-le-sum_by}
+use Rattle.std.proofs.lemmas.Bool.{both_ways, and_from, eq-eqb}
+use Rattle.std.proofs.lemmas.Bool.Decides.{nat_tests}
+use Rattle.prta_sheet.specs.Sheet.{Task}
+use Rattle.prta_sheet.specs.Job.{Job, jobs_before}
+use Rattle.prta_sheet.specs.Assignment.{Timed}
+use Rattle.prta_sheet.specs.Machine.{place, is_job, remaining, IsFinish}
+use Rattle.prta_jobs.specs.Backlog.{level_jobs, jobs_above, finish_by_backlog, backlog_at, delayed, released_until, released_after}
+use Rattle.prta_ticksim.specs.ScheduleToBacklog.{jobs_of, IsListed, ScheduleToBacklog}
+use Rattle.prta_ticksim.proofs.Each.{Pairs, Each-weaker}
+use Rattle.prta_ticksim.proofs.Sums.{sum_by-filter}
+use Rattle.prta_ticksim.proofs.JobOrder.{InOrder, IsBefore, before_is, before_in_order}
+use Rattle.prta_ticksim.proofs.Places.{place_within}
+use Rattle.prta_ticksim.proofs.LevelFinish.{finish_is}
+use Rattle.prta_ticksim.proofs.Misses.{one_finish, misses_late}
+
+module _ (tasks : List Task) (t : ℕ) (order : List ℕ) (start : List Timed) (job : Job) (is : IsListed tasks t order start job) where
+  ordered : Each (λ other. place order other.task < length order) (jobs_of start)
+  ordered =
+      subst (Each (λ (other : Job). place order other.task < length order)) (sym is.whole)
+      (Each-weaker (IsBefore (length tasks) t) _ (λ other h. place_within (length tasks) order is.permutation other.task h.0) (jobs_before tasks t) (before_is tasks t))
+
+  within : place order job.task < length order
+  within =
+      All-contains (λ (other : Job). place order other.task < length order) (jobs_of start) job (All-from_recursion _ (jobs_of start) ordered)
+      (subst (λ (jobs : List Job). Contains jobs job) (sym is.whole) is.listed)
+
+  takes : 1 ≤ remaining job start
+  takes =
+      let none : Timed = record { job = job; time = 0 } in
+      let k : ℕ = is.listed.0 in
+      let low : k < length start = omega (arith, length-map start (λ (e : Timed). e.job), ap (λ (jobs : List Job). length jobs) is.whole, is.listed.1) in
+      let here : (get_or start k none).job ≡ job =
+      sym (get_or-map (λ (e : Timed). e.job) start k none job low) ∙ ap (λ (jobs : List Job). get_or jobs k job) is.whole ∙ is.listed.2 in
+      let own : is_job job (get_or start k none) ≡ true = and_from _ _ (eq-eqb _ _ (ap (λ (j : Job). j.task) here)) (eq-eqb _ _ (ap (λ (j : Job). j.release) here)) in
+      omega (
+        arith,
+        sum_by-filter (is_job job) (λ e. e.time) start,
+        get_or-le-sum_by (λ e. cond (is_job job e) e.time 0) start k none low,
+        ap (λ b. cond b (get_or start k none).time 0) own,
+        is.take_time k none low,
+      )
+
+  pub finishes : IsFinish order start job (finish_by_backlog order start job)
+  finishes = finish_is order start (subst (Pairs InOrder) (sym is.whole) (before_in_order tasks t)) ordered job within takes
+
+-- ---- the level alone
+
+-- of two tests in turn, where what passes the outer one passes the inner one, the outer one decides
+filter-inner : {X : Type 0} (p q : X → Bool) → ((x : X) → p x ≡ true → q x ≡ true) → (xs : List X) → filter p (filter q xs) ≡ filter p xs
+filter-inner p q implies [] = refl
+filter-inner p q implies (x ∷ xs) = by_flags (q x) (p x) refl refl (filter-inner p q implies xs)
+  where
+    by_flags : (b c : Bool) → q x ≡ b → p x ≡ c → filter p (filter q xs) ≡ filter p xs → filter p (cond (q x) (x ∷ filter q xs) (filter q xs)) ≡ cond (p x) (x ∷ filter p xs) (filter p xs)
+    by_flags true true e f rest = rw (e, f) (ap (λ ys. x ∷ ys) rest)
+    by_flags true false e f rest = rw (e, f) rest
+    by_flags false true e f rest = absurd (both_ways (q x) e (implies x f))
+    by_flags false false e f rest = rw (e, f) rest
+
+module _ (order : List ℕ) (start : List Timed) (job : Job) where
+  level_again : level_jobs order job.task (level_jobs order job.task start) ≡ level_jobs order job.task start
+  level_again = filter-inner _ (λ e. nat_le (place order e.job.task) (place order job.task)) (λ e h. h) start
+
+  above_again : jobs_above order job.task (level_jobs order job.task start) ≡ jobs_above order job.task start
+  above_again = filter-inner _ (λ e. nat_le (place order e.job.task) (place order job.task)) (λ e h. below (place order e.job.task) (place order job.task) h) start
+    where
+      below : (a b : ℕ) → nat_lt a b ≡ true → nat_le a b ≡ true
+      below a b h = grind (arith, nat_tests)
+
+  pub level_alone : finish_by_backlog order (level_jobs order job.task start) job ≡ finish_by_backlog order start job
+  level_alone =
+      ap (λ (es : List Timed). job.release + delayed job.release (backlog_at 0 0 (released_until job.release es) job.release) (released_after job.release (jobs_above order job.task (level_jobs order job.task start)))) level_again
+      ∙ ap (λ (es : List Timed). job.release + delayed job.release (backlog_at 0 0 (released_until job.release (level_jobs order job.task start)) job.release) (released_after job.release es)) above_again
+
+-- ---- the law
+
+pub schedule_to_backlog : ScheduleToBacklog
+schedule_to_backlog = record {
+  finish = finishes;
+  only = λ tasks t order start job is n at_n. one_finish order job start n _ at_n (finishes tasks t order start job is);
+  miss = λ tasks t order start job is deadline. misses_late order job start deadline _ (finishes tasks t order start job is);
+  level = level_alone;
+  others = λ tasks t order start other job is is_other same n at_n.
+      let here : n ≡ finish_by_backlog order start job = one_finish order job start n _ at_n (finishes tasks t order start job is) in
+      let there : finish_by_backlog order start job ≡ finish_by_backlog order other job =
+      sym (level_alone order start job) ∙ ap (λ (es : List Timed). finish_by_backlog order es job) same ∙ level_alone order other job in
+      subst (IsFinish order other job) (sym (here ∙ there)) (finishes tasks t order other job is_other);
+}
