@@ -51,7 +51,7 @@ impl Model for TimeTable {
 
     ghost view = { λ t. t.points.items };
 
-    ghost invariant = { λ t. IsTable t.points.items × (fault_of t.points.items ≡ None) };
+    ghost invariant = { λ t. IsTable t.points.items };
 }
 
 impl TimeTable {
@@ -73,6 +73,7 @@ impl TimeTable {
     }
 
     /// The pairs of a time in ticks and its weight, by rising time.
+    #[tactic(auto, using(crate::proofs::Faultless::no_table_fault))]
     pub fn points(&self) -> &[(u32, u64)]
         ensures pairs { result.now ≡ self.now }
         ensures table { IsTable self.now }

@@ -1,11 +1,11 @@
 -- The first of several answers is none exactly where each of them is none.
-use Rattle.std.proofs.Common.{◌≡◌, Bool, false, Option, None, List, [], ◌∷◌, ◌++◌, refl}
+use Rattle.std.proofs.Common.{◌≡◌, false, Option, None, List, [], ◌∷◌, ◌++◌, refl}
 use Rattle.std.specs.List.{AllByRecursion as Each}
-use Rattle.toml.specs.Data.{Data, get_member}
-use Rattle.prta_sheet.specs.declared.fault.SheetFault.{SheetFault}
-use Rattle.prta_sheet.specs.declared.fault.Key.{Key}
+use Rattle.toml.specs.Data.{get_member}
+use Rattle.prta_sheet.specs.declared.fault.SheetFault.TheVariants.{OutOfRange}
+use Rattle.prta_sheet.specs.declared.conditions.Condition.TheVariants.{Range}
 use Rattle.prta_sheet.specs.Format.{Row}
-use Rattle.prta_sheet.specs.DocumentConditions.{first_of, first_row, Spot}
+use Rattle.prta_sheet.specs.DocumentConditions.{first_of, fails, rows_fault, Spot}
 use Rattle.prta_sheet.proofs.FirstOf.{first_none, next_none, both_none, when_none, when_false}
 use Rattle.prta_sheet.proofs.Each.{Each-append, Each-left, Each-right, Each-weaker}
 
@@ -28,13 +28,13 @@ module _ {X Y : Type 0} (f : X → Option Y) where
   pub first_of-append : (xs ys : List X) → first_of f xs ≡ None → first_of f ys ≡ None → first_of f (xs ++ ys) ≡ None
   first_of-append xs ys h k = first_of-none (xs ++ ys) (Each-append (λ x. f x ≡ None) xs ys (first_of-each xs h) (first_of-each ys k))
 
--- no row of a table fails
-module _ (refusal : Key → SheetFault) (fails : Row → Option Data → Bool) (s : Spot) where
-  abbrev pub Stands : Row → Type 0
-  Stands row = fails row (get_member row.text s.table) ≡ false
+-- no value of a table is outside its range
+module _ (s : Spot) where
+  abbrev pub IsRowInRange : Row → Type 0
+  IsRowInRange row = fails row.range (get_member row.text s.table) ≡ false
 
-  pub first_row-each : first_row refusal fails s ≡ None → Each Stands s.rows
-  first_row-each h = Each-weaker _ Stands (λ row here. when_none _ (refusal row.key) here) s.rows (first_of-each _ s.rows h)
+  pub rows_in_range : rows_fault Range s ≡ None → Each IsRowInRange s.rows
+  rows_in_range h = Each-weaker _ IsRowInRange (λ row here. when_none _ (OutOfRange s.at row.key) here) s.rows (first_of-each _ s.rows h)
 
-  pub first_row-none : Each Stands s.rows → first_row refusal fails s ≡ None
-  first_row-none h = first_of-none _ s.rows (Each-weaker Stands _ (λ row here. when_false _ (refusal row.key) here) s.rows h)
+  pub no_row_out_of_range : Each IsRowInRange s.rows → rows_fault Range s ≡ None
+  no_row_out_of_range h = first_of-none _ s.rows (Each-weaker IsRowInRange _ (λ row here. when_false _ (OutOfRange s.at row.key) here) s.rows h)

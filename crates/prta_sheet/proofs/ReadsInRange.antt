@@ -14,7 +14,7 @@ use Rattle.prta_sheet.specs.Document.{◌>>=◌}
 use Rattle.prta_sheet.specs.DocumentConditions.{first_fault}
 use Rattle.prta_sheet.specs.SheetConditions.{in_range, support_ranges, settings_ranges, times_range, allow_range, task_ranges, part_ranges}
 use Rattle.prta_sheet.specs.Stated.{stated}
-use Rattle.prta_sheet.specs.Reading.{within, natural, share_in, point_in, points_of_items, points_of, read_task, with_read_task, read_task_items, read_tasks, read_support, read_settings, read}
+use Rattle.prta_sheet.specs.Reading.{within, natural, integers_in, share_in, point_in, points_of_items, points_of, read_task, with_read_task, read_task_items, read_tasks, read_support, read_settings, read}
 use Rattle.prta_sheet.proofs.FirstOf.{both_none, when_false, none_below}
 use Rattle.prta_sheet.proofs.ReadsStated.{reads}
 
@@ -33,22 +33,27 @@ number_in_range : (at : Place) (key : Key) (low high default : ℕ) → is_betwe
 number_in_range at key low high default fits value =
     by_range low high (λ o. in_range at key low high (unwrap_or o default) ≡ None) (rw fits refl) (λ n is. rw is refl) value
 
+-- what two integers make, where they are there
+by_pair : (make : ℤ × ℤ → Option (ℕ × ℕ)) (P : Option (ℕ × ℕ) → Type 0) → P None → ((a b : ℤ) → P (make (a, b))) → (pair : Option (ℤ × ℤ)) → P (pair >>= make)
+by_pair make P none some None = none
+by_pair make P none some (Some pair) = some pair.0 pair.1
+
 -- ---- times
 
 -- the time of a point is in range; none counts as 0
 abbrev IsEarly : Option (ℕ × ℕ) → Type 0
 IsEarly point = nat_lt TIME_LIMIT (unwrap_or {T = ℕ × ℕ} point (0, 0)).0 ≡ false
 
-with_weight : (time : ℕ) → is_between 0 TIME_LIMIT time ≡ true → (weight : Option ℤ) → IsEarly (weight >>= natural >>= (λ w. Some (time, w)))
-with_weight time is None = refl
-with_weight time is (Some (pos w)) = let (low, high) = and_parts (nat_le 0 time) (nat_le time TIME_LIMIT) is in grind (arith, nat_tests)
-with_weight time is (Some (negsuc w)) = refl
+with_weight : (time : ℕ) → is_between 0 TIME_LIMIT time ≡ true → (weight : ℤ) → IsEarly (natural weight >>= (λ w. Some (time, w)))
+with_weight time is (pos w) = let (low, high) = and_parts (nat_le 0 time) (nat_le time TIME_LIMIT) is in grind (arith, nat_tests)
+with_weight time is (negsuc w) = refl
 
 point_in_range : (items : Option Items) → IsEarly (items >>= point_in)
-point_in_range (Some (item time (item weight no_items))) =
-    by_range 0 TIME_LIMIT (λ o. IsEarly (o >>= (λ c. as_integer weight >>= natural >>= (λ w. Some (c, w)))))
-    refl (λ c is. with_weight c is (as_integer weight)) (as_integer time)
-point_in_range _ = refl
+point_in_range None = refl
+point_in_range (Some items) =
+    by_pair _ IsEarly refl
+    (λ time weight. by_range 0 TIME_LIMIT (λ o. IsEarly (o >>= (λ c. natural weight >>= (λ w. Some (c, w))))) refl (λ c is. with_weight c is weight) (Some time))
+    (integers_in items)
 
 points_in_range : (items : Items) → list_any (λ (pair : ℕ × ℕ). nat_lt TIME_LIMIT pair.0) (points_of_items items) ≡ false
 points_in_range no_items = refl
@@ -64,16 +69,17 @@ times_in_range i (Some items) = when_false _ _ (points_in_range items)
 abbrev IsShareAt : ℕ → Option (ℕ × ℕ) → Type 0
 IsShareAt i share = allow_range i (unwrap_or share (0, 1)) ≡ None
 
-with_part : (i whole : ℕ) → is_between 1 (10 ^ 18) whole ≡ true → (part : Option ℤ) → IsShareAt i (part >>= within 0 whole >>= (λ p. Some (p, whole)))
+with_part : (i whole : ℕ) → is_between 1 (10 ^ 18) whole ≡ true → (part : ℤ) → IsShareAt i (within 0 whole part >>= (λ p. Some (p, whole)))
 with_part i whole is part =
     by_range 0 whole (λ o. IsShareAt i (o >>= (λ p. Some (p, whole))))
-    refl (λ p small. rw (is, (and_parts (nat_le 0 p) (nat_le p whole) small).1) refl) part
+    refl (λ p small. rw (is, (and_parts (nat_le 0 p) (nat_le p whole) small).1) refl) (Some part)
 
 share_in_range : (i : ℕ) (items : Option Items) → IsShareAt i (items >>= share_in)
-share_in_range i (Some (item p (item q no_items))) =
-    by_range 1 (10 ^ 18) (λ o. IsShareAt i (o >>= (λ whole. as_integer p >>= within 0 whole >>= (λ part. Some (part, whole)))))
-    refl (λ whole is. with_part i whole is (as_integer p)) (as_integer q)
-share_in_range i _ = refl
+share_in_range i None = refl
+share_in_range i (Some items) =
+    by_pair _ (IsShareAt i) refl
+    (λ part whole. by_range 1 (10 ^ 18) (λ o. IsShareAt i (o >>= (λ q. within 0 q part >>= (λ p. Some (p, q))))) refl (λ q is. with_part i q is part) (Some whole))
+    (integers_in items)
 
 -- ---- tasks, settings and the sheet
 

@@ -1,26 +1,23 @@
 -- What is read of a document is what it states, where its values are in their ranges.
-use Rattle.std.proofs.Common.{◌≡◌, ℕ, ℤ, pos, negsuc, ◌+◌, ◌^◌, Bool, true, false, not, ◌&&◌, nat_le, Option, Some, None, unwrap_or, List, [], ◌∷◌, ◌++◌, codes, refl, ap, ap₂, sym, ◌∙◌}
-use Rattle.std.specs.List.{AllByRecursion as Each}
-use Rattle.std.specs.Option.{option_map_or}
+use Rattle.std.proofs.Common.{◌≡◌, ℕ, ℤ, pos, negsuc, ◌+◌, ◌^◌, Bool, true, false, ◌&&◌, nat_le, Option, Some, None, unwrap_or, List, [], ◌∷◌, ◌++◌, codes, refl, ap, ap₂, sym, ◌∙◌}
 use Rattle.std.proofs.lemmas.Bool.{and_parts, not-false, true≢false, false≢true}
 use Rattle.toml.specs.Data.{Data, integer, array, Items, no_items, item, Members, get_member, as_table, as_array, as_integer}
-use Rattle.prta_sheet.specs.declared.fault.SheetFault.TheVariants.{OutOfRange}
 use Rattle.prta_sheet.specs.declared.fault.Place.TheVariants as place
 use Rattle.prta_sheet.specs.declared.conditions.Condition.TheVariants.{Listed, Needed, Kind, Range}
 use Rattle.prta_sheet.specs.Sheet.{Task}
 use Rattle.prta_sheet.specs.Format.{is_from_to, is_pair_with, is_share, is_time_with_weight, each_item, is_array_of, top_rows, support_rows, task_rows}
 use Rattle.prta_sheet.specs.Document.{◌>>=◌}
-use Rattle.prta_sheet.specs.DocumentConditions.{fault_in, format_fault, first_fault, document_fault, first_of, spot, task_spots, all_task_spots, Spot}
+use Rattle.prta_sheet.specs.DocumentConditions.{fails, fault_in, format_fault, first_fault, document_fault, first_of, spot, task_spots, all_task_spots, Spot}
 use Rattle.prta_sheet.specs.SheetConditions.{later_fault}
 use Rattle.prta_sheet.specs.Refusal.{document_refusal}
 use Rattle.prta_sheet.specs.Stated.{number_or, pair_or, pairs_of_items, pairs_of, stated_task, with_task, tasks_of_items, stated_tasks, stated_support, stated_settings, stated}
 use Rattle.prta_sheet.specs.Reading.{within, share_of, point_of, points_of_items, points_of, read_task, with_read_task, read_task_items, read_tasks, read_support, read_settings, read}
 use Rattle.prta_sheet.proofs.FirstOf.{next_none, past_none}
-use Rattle.prta_sheet.proofs.AllPass.{first_of-each, first_of-left, first_of-right, first_row-each}
+use Rattle.prta_sheet.proofs.AllPass.{first_of-each, first_of-left, first_of-right, rows_in_range}
 
 -- the value, where there is one, passes
 abbrev Passes : (Data → Bool) → Option Data → Type 0
-Passes range value = option_map_or (λ d. not (range d)) value false ≡ false
+Passes range value = fails range value ≡ false
 
 -- ---- values
 
@@ -78,16 +75,12 @@ times_read (Some _) h = refl
 abbrev IsInRange : Spot → Type 0
 IsInRange s = fault_in Range s ≡ None
 
--- each row of the table has its value in range
-ranges_of : (s : Spot) → IsInRange s → Each (λ row. Passes row.range (get_member row.text s.table)) s.rows
-ranges_of s h = first_row-each (OutOfRange s.at) (λ row value. option_map_or (λ d. not (row.range d)) value false) s h
-
 abbrev task_spot : ℕ → Members → Spot
 task_spot i members = record { at = place.Task i; rows = task_rows; table = members }
 
 task_reads : (i : ℕ) (members : Members) → IsInRange (task_spot i members) → read_task members ≡ stated_task members
 task_reads i members h =
-    let (name, (offset, (period, (deadline, (times, (allow, end)))))) = ranges_of (task_spot i members) h in
+    let (name, (offset, (period, (deadline, (times, (allow, end)))))) = rows_in_range (task_spot i members) h in
     rw (
       number_reads 0 999999 0 (get_member (codes "offset") members) offset,
       number_reads 1 1000000 1 (get_member (codes "period") members) period,
@@ -122,7 +115,7 @@ support_reads : (members : Option Members) → first_of (fault_in Range) (spot p
 support_reads None h = refl
 support_reads (Some members) h =
     let here = (first_of-each (fault_in Range) (support_spot members ∷ []) h).0 in
-    let (fine, (step, end)) = ranges_of (support_spot members) here in
+    let (fine, (step, end)) = rows_in_range (support_spot members) here in
     rw (
       number_reads 0 16383 0 (get_member (codes "fine") members) fine,
       number_reads 1 16384 1 (get_member (codes "step") members) step,
@@ -134,7 +127,7 @@ top_spot doc = record { at = place.Top; rows = top_rows; table = doc }
 settings_read : (doc : Members) → IsInRange (top_spot doc) → first_of (fault_in Range) (spot place.Support support_rows (get_member (codes "support") doc >>= as_table)) ≡ None
     → read_settings doc ≡ stated_settings doc
 settings_read doc top support =
-    let (format, (cap, (hyperperiods, (turns, rest)))) = ranges_of (top_spot doc) top in
+    let (format, (cap, (hyperperiods, (turns, rest)))) = rows_in_range (top_spot doc) top in
     rw (
       number_reads 3 16384 2048 (get_member (codes "cap") doc) cap,
       number_reads 1 64 1 (get_member (codes "hyperperiods") doc) hyperperiods,

@@ -1,7 +1,6 @@
 -- The document of an accepted sheet passes the conditions on documents.
 use Rattle.std.proofs.Common.{◌≡◌, ℕ, pos, ◌+◌, ◌^◌, ◌≤◌, true, false, not, None, List, [], ◌∷◌, codes, refl, arith, All}
 use Rattle.std.specs.List.{AllByRecursion as Each}
-use Rattle.std.specs.Option.{option_map_or}
 use Rattle.std.proofs.lemmas.Bool.{and_from, not_from_true}
 use Rattle.std.proofs.lemmas.Bool.Decides.{nat_tests}
 use Rattle.std.proofs.lemmas.List.Elements.{All-head, All-tail}
@@ -10,7 +9,6 @@ use Rattle.prta_mass.specs.Table.{Table}
 use Rattle.prta_mass.specs.declared.support.Support.{Support}
 use Rattle.prta_sheet.specs.declared.limits.TheConstants.{TIME_LIMIT}
 use Rattle.prta_sheet.specs.declared.settings.Settings.{Settings}
-use Rattle.prta_sheet.specs.declared.fault.SheetFault.TheVariants.{OutOfRange}
 use Rattle.prta_sheet.specs.declared.fault.Place.TheVariants as place
 use Rattle.prta_sheet.specs.declared.conditions.Condition.{Condition}
 use Rattle.prta_sheet.specs.declared.conditions.Condition.TheVariants.{Listed, Needed, Kind, Range}
@@ -21,7 +19,7 @@ use Rattle.prta_sheet.specs.Document.{◌>>=◌}
 use Rattle.prta_sheet.specs.DocumentConditions.{fault_in, first_fault, first_of, spot, task_spots, all_task_spots, Spot, format_fault, document_fault}
 use Rattle.prta_sheet.specs.Canonical.{number_data, pairs_data, task_document, tasks_data, document_of}
 use Rattle.prta_sheet.proofs.FirstOf.{both_none}
-use Rattle.prta_sheet.proofs.AllPass.{first_of-append, first_row-none}
+use Rattle.prta_sheet.proofs.AllPass.{first_of-append, IsRowInRange, no_row_out_of_range}
 use Rattle.prta_sheet.proofs.CanonicalDocument.{by_support}
 use Rattle.prta_sheet.proofs.Statable.{time_within}
 
@@ -61,10 +59,7 @@ support_members support = member (codes "fine") (number_data support.fine) (memb
 
 -- the rows of a table whose values are none or in their ranges
 abbrev AreInRange : Spot → Type 0
-AreInRange s = Each (λ row. option_map_or (λ d. not (row.range d)) (get_member row.text s.table) false ≡ false) s.rows
-
-ranges_stand : (s : Spot) → AreInRange s → fault_in Range s ≡ None
-ranges_stand s rows = first_row-none (OutOfRange s.at) (λ row value. option_map_or (λ d. not (row.range d)) value false) s rows
+AreInRange s = Each (IsRowInRange s) s.rows
 
 abbrev task_spot : ℕ → Task → Spot
 task_spot i task = record { at = place.Task i; rows = task_rows; table = task_document task }
@@ -92,7 +87,7 @@ module _ (cap : ℕ) (few : cap ≤ 16384) where
   task_stands Listed i task is = refl
   task_stands Needed i task is = refl
   task_stands Kind i task is = rw (are_pairs task.table) refl
-  task_stands Range i task is = ranges_stand (task_spot i task) (task_in_range i task is)
+  task_stands Range i task is = no_row_out_of_range (task_spot i task) (task_in_range i task is)
 
   tasks_stand : (condition : Condition) (i : ℕ) (tasks : List Task) → All (IsTask cap) tasks → first_of (fault_in condition) (task_spots i (tasks_data tasks)) ≡ None
   tasks_stand condition i [] are = refl
@@ -126,14 +121,14 @@ module _ (tasks : List Task) where
   top_stands Listed settings are = by_support (λ s. fault_in Listed (top_spot s) ≡ None) (λ s. refl) (λ s support. refl) settings
   top_stands Needed settings are = by_support (λ s. fault_in Needed (top_spot s) ≡ None) (λ s. refl) (λ s support. refl) settings
   top_stands Kind settings are = by_support (λ s. fault_in Kind (top_spot s) ≡ None) (λ s. rw (are_tables tasks) refl) (λ s support. rw (are_tables tasks) refl) settings
-  top_stands Range settings are = ranges_stand (top_spot settings) (top_in_range settings are)
+  top_stands Range settings are = no_row_out_of_range (top_spot settings) (top_in_range settings are)
 
   support_stands : (condition : Condition) (support : Support) → AreSupportRanges support → fault_in condition (support_spot support) ≡ None
   support_stands Listed support are = refl
   support_stands Needed support are = refl
   support_stands Kind support are = refl
   support_stands Range support are =
-      ranges_stand (support_spot support) (in_range 0 16383 support.fine (omega arith) are.fine, (in_range 1 16384 support.step are.step_low are.step_high, tt))
+      no_row_out_of_range (support_spot support) (in_range 0 16383 support.fine (omega arith) are.fine, (in_range 1 16384 support.step are.step_low are.step_high, tt))
 
   supports_stand : (condition : Condition) (settings : Settings) → AreSettings settings → first_of (fault_in condition) (support_spots settings) ≡ None
   supports_stand condition settings =

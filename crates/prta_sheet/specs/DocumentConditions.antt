@@ -4,7 +4,6 @@ use Rattle.std.specs.List.{list_all, list_any}
 use Rattle.std.specs.Option.{option_map_or}
 use Rattle.toml.specs.Data.{Data, integer, Items, no_items, item, Members, get_member, as_table}
 use Rattle.prta_mass.specs.Table.{or_else, when}
-use Rattle.prta_sheet.specs.declared.fault.Key.{Key}
 use Rattle.prta_sheet.specs.declared.fault.Place.{Place}
 use Rattle.prta_sheet.specs.declared.fault.Place.TheVariants.{Top, Support, Task}
 use Rattle.prta_sheet.specs.declared.fault.SheetFault.{SheetFault}
@@ -61,16 +60,28 @@ format_fault doc = when (not (is_format (get_member (codes "format") doc))) Form
 abbrev pub is_listed : List Row → List ℕ → Bool
 is_listed rows key = list_any (λ row. bytes_eq key row.text) rows
 
--- the first of a table's rows whose value, or lack of one, fails
-abbrev pub first_row : (Key → SheetFault) → (Row → Option Data → Bool) → Spot → Option SheetFault
-first_row refusal fails s = first_of (λ row. when (fails row (get_member row.text s.table)) (refusal row.key)) s.rows
+-- there is a value, and it fails a test
+abbrev pub fails : (Data → Bool) → Option Data → Bool
+fails test value = option_map_or (λ d. not (test d)) value false
 
--- what refuses a table: a key that isn't listed; a needed key that isn't there; a value of another kind; a number outside its range
+-- what a condition refuses at a row's key: Needed the lack of a needed value, Kind a value of another kind, Range a number outside its range;
+-- Listed is a condition on a whole table
+abbrev pub row_fault : Condition → Place → Row → Option Data → Option SheetFault
+row_fault Listed at row value = None
+row_fault Needed at row value = when (row.needed && is_none value) (MissingKey at row.key)
+row_fault Kind at row value = when (fails row.kind value) (WrongKind at row.key)
+row_fault Range at row value = when (fails row.range value) (OutOfRange at row.key)
+
+-- the first row of a table that a condition refuses
+abbrev pub rows_fault : Condition → Spot → Option SheetFault
+rows_fault condition s = first_of (λ row. row_fault condition s.at row (get_member row.text s.table)) s.rows
+
+-- what a condition refuses in a table: Listed a key that no row has, each other one the first row that it refuses
 abbrev pub fault_in : Condition → Spot → Option SheetFault
 fault_in Listed s = when (not (list_all (is_listed s.rows) (keys_of s.table))) (UnknownKey s.at)
-fault_in Needed s = first_row (MissingKey s.at) (λ row value. row.needed && is_none value) s
-fault_in Kind s = first_row (WrongKind s.at) (λ row value. option_map_or (λ d. not (row.kind d)) value false) s
-fault_in Range s = first_row (OutOfRange s.at) (λ row value. option_map_or (λ d. not (row.range d)) value false) s
+fault_in Needed s = rows_fault Needed s
+fault_in Kind s = rows_fault Kind s
+fault_in Range s = rows_fault Range s
 
 -- the first table that a condition refuses
 abbrev pub first_fault : Condition → Members → Option SheetFault

@@ -7,6 +7,7 @@ pub mod Chance
 pub mod Work
 pub mod Weights
 pub mod Laws
+pub mod Limits
 pub mod Worked
 pub mod Accepted
 pub mod Document

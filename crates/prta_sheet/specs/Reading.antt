@@ -35,8 +35,7 @@ integers_of value = as_array value >>= integers_in
 
 -- a time and a weight
 abbrev pub point_in : Items → Option (ℕ × ℕ)
-point_in (item time (item weight no_items)) = as_integer time >>= within 0 TIME_LIMIT >>= (λ c. as_integer weight >>= natural >>= (λ w. Some (c, w)))
-point_in _ = None
+point_in items = integers_in items >>= (λ pair. within 0 TIME_LIMIT pair.0 >>= (λ time. natural pair.1 >>= (λ weight. Some (time, weight))))
 
 abbrev pub point_of : Data → ℕ × ℕ
 point_of value = unwrap_or (as_array value >>= point_in) (0, 0)
@@ -51,8 +50,7 @@ points_of (Some items) = points_of_items items
 
 -- p of q
 abbrev pub share_in : Items → Option (ℕ × ℕ)
-share_in (item p (item q no_items)) = as_integer q >>= within 1 (10 ^ 18) >>= (λ whole. as_integer p >>= within 0 whole >>= (λ part. Some (part, whole)))
-share_in _ = None
+share_in items = integers_in items >>= (λ pair. within 1 (10 ^ 18) pair.1 >>= (λ whole. within 0 whole pair.0 >>= (λ part. Some (part, whole))))
 
 abbrev pub share_of : Option Data → ℕ × ℕ
 share_of value = unwrap_or (value >>= as_array >>= share_in) (0, 1)

@@ -1,4 +1,4 @@
--- The work of a sheet: a number by which the analysis of a sheet is bounded.
+-- The work of a sheet: a stated number, without a unit.
 use Rattle.std.specs.Prelude.{ℕ, ◌+◌, ◌-◌, ◌*◌, ◌<◌, ◌≤◌, ◌&&◌, not, nat_eq, nat_lt, if◌then◌else◌, List, length, filter, sum_by}
 use Rattle.std.specs.List.{range_with_len}
 use Rattle.prta_sheet.specs.Sheet.{Task, Sheet, task_at}

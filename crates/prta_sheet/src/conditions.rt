@@ -1,10 +1,9 @@
 //! The conditions on a sheet's document: the key `format`, and in each of its tables the keys, their kinds and
 //! their ranges.
 
-ghost use Rattle.std.specs.Prelude.{◌≡◌, false, not, option_map, codes, string_bytes};
+ghost use Rattle.std.specs.Prelude.{◌≡◌, not, option_map, codes, string_bytes};
 ghost use Rattle.std.specs.List.{list_all};
 ghost use Rattle.std.specs.BTreeMap.{keys};
-ghost use Rattle.std.specs.Option.{option_map_or};
 ghost use Rattle.toml.specs.Data.{get_member, as_table};
 ghost use Rattle.toml.specs.View.{view, table_view, array_view};
 ghost use Rattle.prta_mass.specs.Table.{when};
@@ -12,8 +11,8 @@ ghost use Rattle.prta_sheet.specs.declared.fault.Place.TheVariants as place;
 ghost use Rattle.prta_sheet.specs.declared.fault.SheetFault.TheVariants as fault;
 ghost use Rattle.prta_sheet.specs.Document.{table_at, array_at};
 ghost use Rattle.prta_sheet.specs.Format.{top_rows, support_rows, task_rows, is_array_of, is_table, is_pair, is_pair_with, is_share, is_time_with_weight, is_from_to};
-ghost use Rattle.prta_sheet.specs.DocumentConditions.{is_listed, format_fault, first_of, fault_in, first_fault, document_fault, spot, task_spots, all_task_spots};
-ghost use Rattle.prta_sheet.specs.Rows.{kind_of, range_of, row_of, row_fault, rows_fault};
+ghost use Rattle.prta_sheet.specs.DocumentConditions.{is_listed, fails, format_fault, first_of, row_fault, rows_fault, fault_in, first_fault, document_fault, spot, task_spots, all_task_spots};
+ghost use Rattle.prta_sheet.specs.Rows.{kind_of, range_of, row_of};
 
 use crate::document::{array_at, integers_of, table_at, value_at};
 use crate::fault::{Key, Place, SheetFault};
@@ -39,7 +38,9 @@ pub enum Condition {
 pub enum Form {
     /// An integer from the first number to the second.
     Integer(u32, u32),
+    /// A text.
     Text,
+    /// A table.
     Table,
     /// An array of tables.
     Tables,
@@ -130,7 +131,7 @@ fn top_fault(condition: Condition, table: &Table) -> Option<SheetFault>
 }
 
 fn top_row_fault(condition: Condition, table: &Table) -> Option<SheetFault>
-    ensures { result ≡ rows_fault condition place.Top top_rows (table_view table.now) }
+    ensures { result ≡ rows_fault condition (record { at = place.Top; rows = top_rows; table = table_view table.now }) }
 {
     let at = Place::Top;
     let tested = Tested {
@@ -166,7 +167,7 @@ fn support_table_fault(condition: Condition, table: &Table) -> Option<SheetFault
 }
 
 fn support_row_fault(condition: Condition, table: &Table) -> Option<SheetFault>
-    ensures { result ≡ rows_fault condition place.Support support_rows (table_view table.now) }
+    ensures { result ≡ rows_fault condition (record { at = place.Support; rows = support_rows; table = table_view table.now }) }
 {
     let at = Place::Support;
     let tested = Tested {
@@ -193,7 +194,7 @@ fn task_table_fault(condition: Condition, i: usize, table: &Table) -> Option<She
 }
 
 fn task_row_fault(condition: Condition, i: usize, table: &Table) -> Option<SheetFault>
-    ensures { result ≡ rows_fault condition (place.Task i) task_rows (table_view table.now) }
+    ensures { result ≡ rows_fault condition (record { at = place.Task i; rows = task_rows; table = table_view table.now }) }
 {
     let at = Place::Task(i);
     let tested = Tested {
@@ -288,7 +289,7 @@ impl<'a> Tested<'a> {
 }
 
 fn is_of_other_kind(form: Form, value: Option<&Value>) -> bool
-    ensures { result ≡ option_map_or (λ d. not (kind_of form d)) (option_map (λ v. view v.now) value.entry) false }
+    ensures { result ≡ fails (kind_of form) (option_map (λ v. view v.now) value.entry) }
 {
     match value {
         Some(value) => !has_kind(form, value),
@@ -297,7 +298,7 @@ fn is_of_other_kind(form: Form, value: Option<&Value>) -> bool
 }
 
 fn is_out_of_range(form: Form, value: Option<&Value>) -> bool
-    ensures { result ≡ option_map_or (λ d. not (range_of form d)) (option_map (λ v. view v.now) value.entry) false }
+    ensures { result ≡ fails (range_of form) (option_map (λ v. view v.now) value.entry) }
 {
     match value {
         Some(value) => !is_in_range(form, value),

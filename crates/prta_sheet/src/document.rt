@@ -94,14 +94,10 @@ pub fn point_of(value: &Value) -> (u32, u64)
 fn point_in(items: &Array) -> Option<(u32, u64)>
     ensures { result ≡ point_in (array_view items.now) }
 {
-    match items.as_slice() {
-        [time, weight] => {
-            let time = within(time.as_integer()?, 0, TIME_LIMIT as u64)?;
-            let weight = natural(weight.as_integer()?)?;
-            Some((time as u32, weight))
-        }
-        _ => None,
-    }
+    let (time, weight) = integers_in(items)?;
+    let time = within(time, 0, TIME_LIMIT as u64)?;
+    let weight = natural(weight)?;
+    Some((time as u32, weight))
 }
 
 // The allowance p of q at a key; 0 of 1 where there is none.
@@ -117,14 +113,10 @@ pub fn share_at(table: &Table, key: &str) -> (u64, u64)
 fn share_in(items: &Array) -> Option<(u64, u64)>
     ensures { result ≡ share_in (array_view items.now) }
 {
-    match items.as_slice() {
-        [part, whole] => {
-            let whole = within(whole.as_integer()?, 1, 1_000_000_000_000_000_000)?;
-            let part = within(part.as_integer()?, 0, whole)?;
-            Some((part, whole))
-        }
-        _ => None,
-    }
+    let (part, whole) = integers_in(items)?;
+    let whole = within(whole, 1, 1_000_000_000_000_000_000)?;
+    let part = within(part, 0, whole)?;
+    Some((part, whole))
 }
 
 // The two integers of an array that has no more.

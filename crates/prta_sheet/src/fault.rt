@@ -20,19 +20,33 @@ pub enum Place {
 /// A key of the format.
 #[derive(Clone, Copy, Debug, PartialEq, Eq)]
 pub enum Key {
+    /// The number of the format, 1.
     Format,
+    /// The number of cells of a list of chances.
     Cap,
+    /// The number of hyperperiods that are analysed.
     Hyperperiods,
+    /// The number of images that are tried for a certificate.
     Turns,
+    /// The cells that a re-sampling keeps.
     Support,
+    /// The last of the cells from 0 on that are all kept.
     Fine,
+    /// The number whose multiples are kept.
     Step,
+    /// The tasks, from highest priority to lowest.
     Task,
+    /// The name of a task.
     Name,
+    /// The release of a task's first job, in ticks.
     Offset,
+    /// The ticks from one release of a task to the next.
     Period,
+    /// The ticks from a job's release to its absolute deadline.
     Deadline,
+    /// The execution times of a task, in ticks, with their weights.
     Times,
+    /// The allowance p of q of a task: a job may miss with a chance of at most p / q.
     Allow,
 }
 

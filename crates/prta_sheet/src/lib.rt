@@ -24,7 +24,7 @@ pub use limits::{
 pub use making::make_sheet;
 pub use model::{
     first_job_alone, hyperperiod_is_least, independent_job, one_job, quotients_are_around,
-    releases_before, served_first, sums_over_assignments, worked_values,
+    releases_before, served_first, stated_limits, sums_over_assignments, worked_values,
 };
 pub use reading::{read_sheet, refused_sheets};
 pub use settings::Settings;

@@ -1,5 +1,6 @@
 //! Laws of the model, without code, and what its definitions give on worked values.
 
+ghost use Rattle.prta_sheet.specs.Limits.{StatedLimits};
 ghost use Rattle.prta_sheet.specs.Worked.{WorkedValues};
 ghost use Rattle.prta_sheet.specs.Laws.{SumsOverAssignments, IndependentJob, ServedFirst, FirstJobAlone, QuotientsAreAround, OneJob, HyperperiodIsLeast, ReleasesBefore};
 
@@ -46,4 +47,9 @@ pub fn hyperperiod_is_least()
 /// How many jobs of a task are released before a time, in closed form.
 pub fn releases_before()
     ensures { ReleasesBefore }
+{}
+
+/// The limits of a sheet, as numbers.
+pub fn stated_limits()
+    ensures { StatedLimits }
 {}

@@ -6,4 +6,4 @@ use Rattle.prta_mass.proofs.table.TimeTable.new.Goals as goal
 pub invariant_of-result : goal.invariant_of-result
 invariant_of-result c =
     let none : fault_of c.args.pairs.now ≡ None = sym c.first_fault.ensures ∙ c.in_default.is in
-    rw c.in-Ok.ensures.items (IsTable-from_none c.args.pairs.now none, none)
+    rw c.in-Ok.ensures.items (IsTable-from_none c.args.pairs.now none)
