@@ -1,12 +1,14 @@
 -- Counts of a list by a number that each of its elements has.
-use Rattle.std.proofs.Common.{◌≡◌, ℕ, zero, suc, ◌+◌, ◌-◌, ◌/◌, ◌<◌, ◌≤◌, Bool, true, false, cond, nat_eq, List, [], ◌∷◌, ◌++◌, length, filter, get_or, sum_by, refl, zero-add, ap, ap₂, sym, ◌∙◌, arith, inl, inr}
+use Rattle.std.proofs.Common.{◌≡◌, ℕ, zero, suc, ◌+◌, ◌<◌, cond, nat_eq, List, [], ◌∷◌, length, filter, get_or, sum_by, refl, zero-add, ap, ap₂, sym, ◌∙◌, arith, inl, inr}
 use Rattle.std.specs.List.{AllByRecursion as Each}
 use Rattle.std.proofs.lemmas.Bool.{cases_lt, ne_eqb, eq-eqb}
 use Rattle.std.proofs.lemmas.List.Sums.{sum_by-cons, length-filter}
 use Rattle.prta_sheet.specs.Sheet.{Task}
-use Rattle.prta_sheet.specs.Job.{Job, is_release, released_by, released_at, jobs_before}
+use Rattle.prta_sheet.specs.Job.{Job, jobs_before}
 use Rattle.prta_sheet.specs.Counts.{releases}
 use Rattle.prta_sheet.specs.Laws.{ReleasesBefore}
+use Rattle.prta_jobs.specs.Laws.{IsBefore}
+use Rattle.prta_jobs.proofs.JobsBefore.{each_weaker, each_before}
 
 -- the sum over the numbers below n
 abbrev sum_below : (ℕ → ℕ) → ℕ → ℕ
@@ -58,23 +60,6 @@ module _ {X : Type 0} (key : X → ℕ) where
 
 -- ---- jobs
 
-each_append : {X : Type 0} (P : X → Type 0) (xs ys : List X) → Each P xs → Each P ys → Each P (xs ++ ys)
-each_append P [] ys first second = second
-each_append P (x ∷ xs) ys first second = (first.0, each_append P xs ys first.1 second)
-
-tasks_at : (n j : ℕ) (tasks : List Task) (t : ℕ) → j + length tasks ≤ n → Each (λ (job : Job). job.task < n) (released_at j tasks t)
-tasks_at n j [] t within = tt
-tasks_at n j (task ∷ tasks) t within =
-    each_append (λ (job : Job). job.task < n) (released_by j task t) (released_at (j + 1) tasks t) (by_flag (is_release task t)) (tasks_at n (j + 1) tasks t (omega arith))
-  where
-    by_flag : (b : Bool) → Each (λ (job : Job). job.task < n) (cond b (record { task = j; number = (t - task.offset) / task.period; release = t } ∷ []) [])
-    by_flag true = (omega arith, tt)
-    by_flag false = tt
-
-tasks_before : (tasks : List Task) (t : ℕ) → Each (λ (job : Job). job.task < length tasks) (jobs_before tasks t)
-tasks_before tasks zero = tt
-tasks_before tasks (suc t) = each_append _ (jobs_before tasks t) (released_at 0 tasks t) (tasks_before tasks t) (tasks_at (length tasks) 0 tasks t (omega arith))
-
 sum_by_places : {X : Type 0} (f : X → ℕ) (xs : List X) (d : X) → sum_by f xs ≡ sum_below (λ i. f (get_or xs i d)) (length xs)
 sum_by_places f [] d = refl
 sum_by_places f (x ∷ xs) d = omega (arith, sum_by-cons f x xs, sum_by_places f xs d, first_and_rest (λ i. f (get_or (x ∷ xs) i d)) (length xs))
@@ -84,4 +69,5 @@ pub count_of_jobs : ReleasesBefore → (tasks : List Task) (t : ℕ) → sum_by 
 count_of_jobs law tasks t =
     sum_by_places (λ task. releases task t) tasks _
     ∙ same_sum _ _ (length tasks) (λ i low. sym (law tasks i t low))
-    ∙ counts_add_up (λ (job : Job). job.task) (length tasks) (jobs_before tasks t) (tasks_before tasks t)
+    ∙ counts_add_up (λ (job : Job). job.task) (length tasks) (jobs_before tasks t)
+    (each_weaker (IsBefore tasks t) (λ (job : Job). job.task < length tasks) (λ job is. is.task) (jobs_before tasks t) (each_before tasks t))

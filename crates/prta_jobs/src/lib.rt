@@ -16,6 +16,6 @@ mod tests;
 pub use instant::{Instant, first_instant, next_instant};
 pub use job::{Job, release};
 pub use jobs::{Jobs, jobs_before};
-pub use model::{orders_have_places, worked_finishes};
+pub use model::{jobs_are_before, orders_have_places, worked_finishes};
 pub use order::{Order, OrderFault};
 pub use task_set::TaskSet;

@@ -5,7 +5,7 @@ use Rattle.prta_sheet.specs.declared.limits.TheConstants.{TIME_LIMIT}
 use Rattle.prta_sheet.specs.Job.{Job}
 use Rattle.prta_sheet.specs.Assignment.{Timed}
 use Rattle.prta_jobs.specs.Backlog.{released_until, released_after, backlog_at, delayed}
-use Rattle.prta_ticksim.specs.Times.{timed, job_at, IsTime, IsJobList}
+use Rattle.prta_ticksim.specs.Times.{timed_jobs, job_at, IsTime, IsJobList}
 use Rattle.prta_ticksim.proofs.TimedJobs.{timed_at, timed_rest, timed_end}
 
 -- ---- one more job of a list
@@ -47,14 +47,14 @@ module _ (level : Timed → Bool) (e : Timed) (es : List Timed) where
 
 -- the backlog at a time is the number so far, carried through the other jobs
 pub record IsBacklogSoFar (jobs : List Job) (times : List ℕ) (level : Timed → Bool) (time k backlog since : ℕ) : Type 0 where
-  pub value : backlog_at backlog since (released_until time (filter level (drop k (timed jobs times)))) time ≡ backlog_at 0 0 (released_until time (filter level (timed jobs times))) time
+  pub value : backlog_at backlog since (released_until time (filter level (drop k (timed_jobs jobs times)))) time ≡ backlog_at 0 0 (released_until time (filter level (timed_jobs jobs times))) time
   pub bound : backlog ≤ k * TIME_LIMIT
   pub reached : since ≤ time
   pub in_order : (m : ℕ) → k ≤ m → m < length jobs → since ≤ (job_at jobs m).release
 
 -- the delayed ticks are the number so far, carried through the other jobs
 pub record IsDelayedSoFar (jobs : List Job) (times : List ℕ) (level : Timed → Bool) (from first k ticks : ℕ) : Type 0 where
-  pub value : delayed from ticks (released_after from (filter level (drop k (timed jobs times)))) ≡ delayed from first (released_after from (filter level (timed jobs times)))
+  pub value : delayed from ticks (released_after from (filter level (drop k (timed_jobs jobs times)))) ≡ delayed from first (released_after from (filter level (timed_jobs jobs times)))
   pub bound : ticks ≤ first + k * TIME_LIMIT
 
 -- before the first job
@@ -66,7 +66,7 @@ module _ (jobs : List Job) (times : List ℕ) (one_each : length times ≡ lengt
       IsBacklogSoFar jobs times level time (k + 1) ((backlog - ((job_at jobs k).release - since)) + get_or times k 0) (job_at jobs k).release
   backlog_with time k backlog since low so_far member early = record {
     value =
-        sym (backlog_counts level (timed_at jobs times k) (drop (k + 1) (timed jobs times)) time backlog since member early)
+        sym (backlog_counts level (timed_at jobs times k) (drop (k + 1) (timed_jobs jobs times)) time backlog since member early)
         ∙ ap (λ (es : List Timed). backlog_at backlog since (released_until time (filter level es)) time) (sym (timed_rest jobs times one_each k low))
         ∙ so_far.value;
     bound = let time_is : IsTime (get_or times k 0) = are_times k 0 (omega arith) in omega (arith, so_far.bound);
@@ -78,7 +78,7 @@ module _ (jobs : List Job) (times : List ℕ) (one_each : length times ≡ lengt
       IsBacklogSoFar jobs times level time (k + 1) backlog since
   backlog_without time k backlog since low so_far why = record {
     value =
-        sym (backlog_leaves level (timed_at jobs times k) (drop (k + 1) (timed jobs times)) time backlog since why)
+        sym (backlog_leaves level (timed_at jobs times k) (drop (k + 1) (timed_jobs jobs times)) time backlog since why)
         ∙ ap (λ (es : List Timed). backlog_at backlog since (released_until time (filter level es)) time) (sym (timed_rest jobs times one_each k low))
         ∙ so_far.value;
     bound = omega (arith, so_far.bound);
@@ -90,7 +90,7 @@ module _ (jobs : List Job) (times : List ℕ) (one_each : length times ≡ lengt
       IsDelayedSoFar jobs times level from first (k + 1) (ticks + get_or times k 0)
   delayed_with from first k ticks low so_far member later some = record {
     value =
-        sym (delay_counts level (timed_at jobs times k) (drop (k + 1) (timed jobs times)) from ticks member later some)
+        sym (delay_counts level (timed_at jobs times k) (drop (k + 1) (timed_jobs jobs times)) from ticks member later some)
         ∙ ap (λ (es : List Timed). delayed from ticks (released_after from (filter level es))) (sym (timed_rest jobs times one_each k low))
         ∙ so_far.value;
     bound = let time_is : IsTime (get_or times k 0) = are_times k 0 (omega arith) in omega (arith, so_far.bound);
@@ -100,7 +100,7 @@ module _ (jobs : List Job) (times : List ℕ) (one_each : length times ≡ lengt
       (level (timed_at jobs times k) ≡ false) ⊎ (((job_at jobs k).release ≤ from) ⊎ (ticks ≤ (job_at jobs k).release - from)) → IsDelayedSoFar jobs times level from first (k + 1) ticks
   delayed_without from first k ticks low so_far why = record {
     value =
-        sym (delay_leaves level (timed_at jobs times k) (drop (k + 1) (timed jobs times)) from ticks why)
+        sym (delay_leaves level (timed_at jobs times k) (drop (k + 1) (timed_jobs jobs times)) from ticks why)
         ∙ ap (λ (es : List Timed). delayed from ticks (released_after from (filter level es))) (sym (timed_rest jobs times one_each k low))
         ∙ so_far.value;
     bound = omega (arith, so_far.bound);
@@ -108,10 +108,10 @@ module _ (jobs : List Job) (times : List ℕ) (one_each : length times ≡ lengt
 
   -- at the end of the list
   pub backlog_whole : (time k backlog since : ℕ) → length jobs ≤ k → IsBacklogSoFar jobs times level time k backlog since →
-      backlog - (time - since) ≡ backlog_at 0 0 (released_until time (filter level (timed jobs times))) time
+      backlog - (time - since) ≡ backlog_at 0 0 (released_until time (filter level (timed_jobs jobs times))) time
   backlog_whole time k backlog since past so_far =
       ap (λ (es : List Timed). backlog_at backlog since (released_until time (filter level es)) time) (sym (timed_end jobs times one_each k past)) ∙ so_far.value
 
-  pub delayed_whole : (from first k ticks : ℕ) → length jobs ≤ k → IsDelayedSoFar jobs times level from first k ticks → ticks ≡ delayed from first (released_after from (filter level (timed jobs times)))
+  pub delayed_whole : (from first k ticks : ℕ) → length jobs ≤ k → IsDelayedSoFar jobs times level from first k ticks → ticks ≡ delayed from first (released_after from (filter level (timed_jobs jobs times)))
   delayed_whole from first k ticks past so_far =
       ap (λ (es : List Timed). delayed from ticks (released_after from (filter level es))) (sym (timed_end jobs times one_each k past)) ∙ so_far.value

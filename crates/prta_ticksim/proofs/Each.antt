@@ -1,7 +1,9 @@
 -- What holds of each element of a list, and of each with every later one.
-use Rattle.std.proofs.Common.{◌≡◌, Bool, true, false, cond, List, [], ◌∷◌, ◌++◌, map, filter, refl, ap, ◌∙◌}
+use Rattle.std.proofs.Common.{◌≡◌, Bool, true, false, cond, List, [], ◌∷◌, ◌++◌, map, filter, AllPairs, refl, ap, ◌∙◌, arith}
 use Rattle.std.specs.List.{AllByRecursion as Each, list_all}
-use Rattle.std.proofs.lemmas.Bool.{and_from}
+use Rattle.std.proofs.lemmas.List.Elements.{All-from_recursion, recursion_from_All, All-weaker, All-filter, filter_passes}
+use Rattle.std.proofs.lemmas.List.Kept.{AllPairs-cons}
+use Rattle.std.proofs.lemmas.List.Sums.{list_all-from_AllPass}
 
 -- of each element and each later one
 abbrev pub Pairs : {X : Type 0} → (X → X → Type 0) → List X → Type 0
@@ -30,16 +32,16 @@ module _ {X : Type 0} where
   Each-from_map P f (x ∷ xs) p = (p.0, Each-from_map P f xs p.1)
 
   Each-filter : (p : X → Bool) (P : X → Type 0) (xs : List X) → Each P xs → Each P (filter p xs)
-  Each-filter p P [] h = tt
-  Each-filter p P (x ∷ xs) h = elim (p x) as (λ b. Each P (cond b (x ∷ filter p xs) (filter p xs))) [ true ↦ (h.0, Each-filter p P xs h.1) | false ↦ Each-filter p P xs h.1 ]
+  Each-filter p P xs h = recursion_from_All P (filter p xs) (All-filter p P xs (All-from_recursion P xs h))
 
   -- what passes a test passes it
   pub Each_passes : (p : X → Bool) (P : X → Type 0) → ((x : X) → p x ≡ true → P x) → (xs : List X) → Each P (filter p xs)
-  Each_passes p P f [] = tt
-  Each_passes p P f (x ∷ xs) =
-      let both : (b : Bool) → p x ≡ b → Each P (cond b (x ∷ filter p xs) (filter p xs)) =
-      λ b. elim b as (λ b. p x ≡ b → Each P (cond b (x ∷ filter p xs) (filter p xs))) [ true ↦ λ e. (f x e, Each_passes p P f xs) | false ↦ λ e. Each_passes p P f xs ] in
-      both (p x) refl
+  Each_passes p P f xs = recursion_from_All P (filter p xs) (All-weaker (λ x. p x ≡ true) P f (filter p xs) (filter_passes p xs))
+
+  -- the same by places
+  pub AllPairs-from_pairs : (R : X → X → Type 0) (xs : List X) → Pairs R xs → AllPairs R xs
+  AllPairs-from_pairs R [] h = λ i j d before low. absurd (omega arith)
+  AllPairs-from_pairs R (x ∷ xs) h = AllPairs-cons R x xs (All-from_recursion (R x) xs h.0) (AllPairs-from_pairs R xs h.1)
 
   pub Pairs-append : (R : X → X → Type 0) (xs ys : List X) → Pairs R xs → Pairs R ys → Each (λ x. Each (R x) ys) xs → Pairs R (xs ++ ys)
   Pairs-append R [] ys p q h = q
@@ -68,5 +70,4 @@ module _ {X : Type 0} where
   filter_none p (x ∷ xs) h = let fails : p x ≡ false = h.0 in rw fails (filter_none p xs h.1)
 
   pub list_all-each : (p : X → Bool) (xs : List X) → Each (λ x. p x ≡ true) xs → list_all p xs ≡ true
-  list_all-each p [] h = refl
-  list_all-each p (x ∷ xs) h = and_from (p x) (list_all p xs) h.0 (list_all-each p xs h.1)
+  list_all-each p xs h = list_all-from_AllPass p xs (All-from_recursion (λ x. p x ≡ true) xs h)

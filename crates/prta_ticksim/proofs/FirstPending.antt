@@ -1,5 +1,5 @@
 -- A tick serves the pending job that goes before every other pending one.
-use Rattle.std.proofs.Common.{◌≡◌, ℕ, ◌-◌, Bool, true, false, not, ◌&&◌, ◌||◌, nat_lt, nat_eq, if◌then◌else◌, List, [], ◌∷◌, ◌++◌, map, refl, ap, ap₂, sym, ◌∙◌, subst, arith, inl, inr, ◌⊎◌, ⊎_elim}
+use Rattle.std.proofs.Common.{◌≡◌, ℕ, ◌-◌, Bool, true, false, not, ◌&&◌, ◌||◌, nat_lt, nat_eq, List, [], ◌∷◌, ◌++◌, map, refl, ap, ap₂, sym, ◌∙◌, subst, arith, inl, inr, ◌⊎◌, ⊎_elim}
 use Rattle.std.specs.List.{AllByRecursion as Each, list_all}
 use Rattle.std.proofs.lemmas.List.{map-append}
 use Rattle.std.proofs.lemmas.List.Folds.{list_all-append}
@@ -8,6 +8,7 @@ use Rattle.std.proofs.lemmas.Bool.Decides.{nat_tests}
 use Rattle.prta_sheet.specs.Job.{Job}
 use Rattle.prta_sheet.specs.Assignment.{Timed}
 use Rattle.prta_sheet.specs.Machine.{place, goes_before, is_pending, is_served, tick}
+use Rattle.prta_ticksim.proofs.Ticked.{ticked}
 use Rattle.prta_ticksim.proofs.Each.{Pairs, Each-append, Each-right, Each-weaker, map_stays, list_all-each}
 
 -- ---- which job goes before which
@@ -92,15 +93,12 @@ module _ (order : List ℕ) (t : ℕ) where
 
   -- ---- a tick
 
-  abbrev pub ticked : List Timed → Timed → Timed
-  ticked state e = if is_served order t state e then record e { time = e.time - 1 } else e
-
-  kept : (state : List Timed) (e : Timed) → is_served order t state e ≡ false → ticked state e ≡ e
+  kept : (state : List Timed) (e : Timed) → is_served order t state e ≡ false → ticked order t state e ≡ e
   kept state e passed = cond-false (is_served order t state e) (record e { time = e.time - 1 }) e passed
 
   pub tick_idle : (state : List Timed) → Each (λ e. is_pending t e ≡ false) state → tick order t state ≡ state
   tick_idle state none =
-      map_stays (ticked state) state (Each-weaker _ _ (λ e idle. kept state e (and_left (is_pending t e) (list_all (λ other. not (is_pending t other && goes_before order other.job e.job)) state) idle)) state none)
+      map_stays (ticked order t state) state (Each-weaker _ _ (λ e idle. kept state e (and_left (is_pending t e) (list_all (λ other. not (is_pending t other && goes_before order other.job e.job)) state) idle)) state none)
 
   module _ (state : List Timed) (f : IsFirst order t state) where
     -- the other job lets this one go first
@@ -137,9 +135,9 @@ module _ (order : List ℕ) (t : ℕ) where
     -- it loses 1 of its remaining time, and the others stay
     pub tick_first : tick order t state ≡ f.before ++ record f.own { time = f.own.time - 1 } ∷ f.behind
     tick_first =
-        let stays : (e : Timed) → Behind order t f.own e → ticked state e ≡ e = λ e behind. kept state e (serves_no_other e behind) in
-        let takes : ticked state f.own ≡ record f.own { time = f.own.time - 1 } = cond-true (is_served order t state f.own) (record f.own { time = f.own.time - 1 }) f.own serves_own in
-        ap (map (ticked state)) f.split
-        ∙ map-append (ticked state) f.before (f.own ∷ f.behind)
-        ∙ ap (λ (es : List Timed). es ++ map (ticked state) (f.own ∷ f.behind)) (map_stays (ticked state) f.before (Each-weaker _ _ stays f.before f.first_before))
-        ∙ ap₂ (λ (e : Timed) (es : List Timed). f.before ++ e ∷ es) takes (map_stays (ticked state) f.behind (Each-weaker _ _ stays f.behind f.first_behind))
+        let stays : (e : Timed) → Behind order t f.own e → ticked order t state e ≡ e = λ e behind. kept state e (serves_no_other e behind) in
+        let takes : ticked order t state f.own ≡ record f.own { time = f.own.time - 1 } = cond-true (is_served order t state f.own) (record f.own { time = f.own.time - 1 }) f.own serves_own in
+        ap (map (ticked order t state)) f.split
+        ∙ map-append (ticked order t state) f.before (f.own ∷ f.behind)
+        ∙ ap (λ (es : List Timed). es ++ map (ticked order t state) (f.own ∷ f.behind)) (map_stays (ticked order t state) f.before (Each-weaker _ _ stays f.before f.first_before))
+        ∙ ap₂ (λ (e : Timed) (es : List Timed). f.before ++ e ∷ es) takes (map_stays (ticked order t state) f.behind (Each-weaker _ _ stays f.behind f.first_behind))

@@ -1,15 +1,14 @@
 -- The jobs before a time are so few, and so early, that no sum of their times is too large.
-use Rattle.std.proofs.Common.{ℕ, zero, suc, ◌+◌, ◌-◌, ◌*◌, ◌/◌, ◌^◌, ◌<◌, ◌≤◌, true, false, if◌then◌else◌, List, [], ◌∷◌, length, All, AllPairs, sym, subst, arith}
+use Rattle.std.proofs.Common.{ℕ, zero, suc, ◌+◌, ◌-◌, ◌*◌, ◌/◌, ◌^◌, ◌<◌, ◌≤◌, true, false, if◌then◌else◌, List, [], ◌∷◌, length, All, sym, subst, arith}
 use Rattle.std.proofs.lemmas.Nat.{mul-le}
 use Rattle.std.proofs.lemmas.List.{length-append}
-use Rattle.std.proofs.lemmas.List.Elements.{All-from_recursion}
-use Rattle.std.proofs.lemmas.List.Kept.{AllPairs-cons}
 use Rattle.prta_sheet.specs.declared.limits.TheConstants.{TASK_LIMIT}
 use Rattle.prta_sheet.specs.Sheet.{Task}
 use Rattle.prta_sheet.specs.Job.{Job, is_release, released_by, released_at, jobs_before}
+use Rattle.prta_jobs.specs.Laws.{JobsAreBefore}
 use Rattle.prta_ticksim.specs.Times.{AreAllBefore, IsJobList}
-use Rattle.prta_ticksim.proofs.Each.{Pairs, Each-weaker, Pairs-weaker}
-use Rattle.prta_ticksim.proofs.JobOrder.{InOrder, IsBefore, before_is, before_in_order}
+use Rattle.prta_ticksim.proofs.Each.{AllPairs-from_pairs}
+use Rattle.prta_ticksim.proofs.JobOrder.{InOrder, before_in_order}
 
 -- ---- how many there are
 
@@ -28,23 +27,17 @@ few_before tasks (suc t) = omega (arith, length-append (jobs_before tasks t) (re
 
 -- ---- what they are
 
-AllPairs-from_pairs : {X : Type 0} (R : X → X → Type 0) (xs : List X) → Pairs R xs → AllPairs R xs
-AllPairs-from_pairs R [] h = λ i j d before low. absurd (omega arith)
-AllPairs-from_pairs R (x ∷ xs) h = AllPairs-cons R x xs (All-from_recursion (R x) xs h.0) (AllPairs-from_pairs R xs h.1)
-
-few_until : (tasks : List Task) (t : ℕ) → length tasks ≤ TASK_LIMIT → t ≤ 2 ^ 32 → IsJobList (jobs_before tasks t)
-few_until tasks t some soon = record {
-  tasks = All-from_recursion _ (jobs_before tasks t) (Each-weaker (IsBefore (length tasks) t) (λ (job : Job). job.task < TASK_LIMIT) (λ job h. omega arith) (jobs_before tasks t) (before_is tasks t));
-  releases = All-from_recursion _ (jobs_before tasks t) (Each-weaker (IsBefore (length tasks) t) (λ (job : Job). job.release < 2 ^ 32) (λ job h. omega arith) (jobs_before tasks t) (before_is tasks t));
-  in_order = AllPairs-from_pairs _ (jobs_before tasks t) (Pairs-weaker (IsBefore (length tasks) t) InOrder _ (λ a b p q h. h.0) (jobs_before tasks t) (before_is tasks t) (before_in_order tasks t));
+few_until : JobsAreBefore → (tasks : List Task) (t : ℕ) → length tasks ≤ TASK_LIMIT → t ≤ 2 ^ 32 → IsJobList (jobs_before tasks t)
+few_until are_before tasks t some soon = record {
+  tasks = λ i d low. omega (arith, (are_before tasks t i d low).task);
+  releases = λ i d low. omega (arith, (are_before tasks t i d low).release);
+  in_order = λ i j d before low. (AllPairs-from_pairs InOrder (jobs_before tasks t) (before_in_order tasks t) i j d before low).0;
   few = omega (arith, few_before tasks t, mul-le (length tasks) t TASK_LIMIT (2 ^ 32) some soon);
 }
 
-module _ (tasks : List Task) (jobs : List Job) (all : AreAllBefore tasks jobs) where
+module _ (are_before : JobsAreBefore) (tasks : List Task) (jobs : List Job) (all : AreAllBefore tasks jobs) where
   pub is_job_list : length tasks ≤ TASK_LIMIT → IsJobList jobs
-  is_job_list some = subst IsJobList (sym all.2) (few_until tasks all.0 some all.1)
+  is_job_list some = subst IsJobList (sym all.2) (few_until are_before tasks all.0 some all.1)
 
   pub of_tasks : All (λ job. job.task < length tasks) jobs
-  of_tasks =
-      let OfTasks : List Job → Type 0 = All (λ (job : Job). job.task < length tasks) in
-      subst OfTasks (sym all.2) (All-from_recursion _ (jobs_before tasks all.0) (Each-weaker (IsBefore (length tasks) all.0) (λ (job : Job). job.task < length tasks) (λ job h. h.0) (jobs_before tasks all.0) (before_is tasks all.0)))
+  of_tasks = let OfTasks : List Job → Type 0 = All (λ (job : Job). job.task < length tasks) in subst OfTasks (sym all.2) (λ i d low. (are_before tasks all.0 i d low).task)

@@ -6,8 +6,9 @@ use Rattle.std.proofs.lemmas.List.{get_or_default, get_or-set_same, get_or-set_o
 use Rattle.prta_sheet.specs.Job.{Job}
 use Rattle.prta_sheet.specs.Assignment.{Timed}
 use Rattle.prta_sheet.specs.Machine.{is_served, after, remaining, IsFinish}
-use Rattle.prta_ticksim.specs.Serving.{job_at, AreApart, IsFirstOf, NoneWaits, IsNextEvent}
-use Rattle.prta_ticksim.specs.Machine.{timed_jobs, IsMachine}
+use Rattle.prta_ticksim.specs.Times.{timed_jobs, job_at}
+use Rattle.prta_ticksim.specs.Serving.{AreApart, IsFirstOf, NoneWaits, IsNextEvent}
+use Rattle.prta_ticksim.specs.Machine.{IsMachine}
 use Rattle.prta_ticksim.proofs.Waiting.{runs_here, none_runs, waiting_parts}
 use Rattle.prta_ticksim.proofs.Ticks.{IsQuiet, idle_stretch, still_none, busy_stretch, still_first}
 use Rattle.prta_ticksim.proofs.Finishes.{remaining_at, left_after, left_is, finish_is}
@@ -68,9 +69,6 @@ module _ (order : List ℕ) (jobs : List Job) (times left ends : List ℕ) (hori
       (short : now + steps ≤ event) (enough : steps ≤ get_or left k 0) where
     quiet : IsQuiet jobs now steps
     quiet = quiet_until limit event steps is short
-
-    low : (n : ℕ) → List ℕ
-    low n = set left k (get_or left k 0 - n)
 
     busy_state : (n : ℕ) → n ≤ steps → after order start (now + n) ≡ timed_jobs jobs (set left k (get_or left k 0 - n))
     busy_state n most = busy_stretch order jobs now steps quiet left kept.left_each k first enough kept.apart start (sym kept.state) n most
@@ -138,9 +136,6 @@ module _ (order : List ℕ) (jobs : List Job) (times left ends : List ℕ) (hori
 
     some : 1 ≤ steps
     some = omega (arith, is.later, (waiting_parts jobs left now k first.waiting).1)
-
-    pub later_time : now < time
-    later_time = omega (arith, some)
 
     pub served_kept : IsMachine order jobs times (set left k (get_or left k 0 - steps)) (set ends k time) horizon time
     served_kept =

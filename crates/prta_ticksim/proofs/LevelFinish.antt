@@ -1,7 +1,7 @@
 -- The finish by backlog is the finish, of jobs that are listed by release, no two of one task at one time.
-use Rattle.std.proofs.Common.{◌≡◌, ℕ, ◌≤◌, ◌<◌, true, not, ◌&&◌, ◌||◌, cond, nat_le, nat_lt, nat_eq, List, length, ap, sym, ◌∙◌, arith, inl, inr}
+use Rattle.std.proofs.Common.{◌≡◌, ℕ, ◌≤◌, ◌<◌, not, ◌&&◌, ◌||◌, cond, nat_le, nat_lt, nat_eq, List, length, sym, ◌∙◌, arith}
 use Rattle.std.specs.List.{AllByRecursion as Each}
-use Rattle.std.proofs.lemmas.Bool.{cases_eq, cases_order, ltb-true}
+use Rattle.std.proofs.lemmas.Bool.{ltb-true}
 use Rattle.std.proofs.lemmas.Bool.Decides.{nat_tests}
 use Rattle.prta_sheet.specs.Job.{Job}
 use Rattle.prta_sheet.specs.Assignment.{Timed}
@@ -10,46 +10,13 @@ use Rattle.prta_jobs.specs.Backlog.{level_jobs, jobs_above, released_until, rele
 use Rattle.prta_ticksim.specs.ScheduleToBacklog.{jobs_of}
 use Rattle.prta_ticksim.proofs.Each.{Pairs, Each_passes, Pairs-weaker, Pairs-from_map, Pairs-filter}
 use Rattle.prta_ticksim.proofs.JobOrder.{InOrder}
-use Rattle.prta_ticksim.proofs.Places.{same_place}
-use Rattle.prta_ticksim.proofs.FirstPending.{Goes, Apart}
+use Rattle.prta_ticksim.proofs.Analysed.{all_apart}
 use Rattle.prta_ticksim.proofs.TimeOf.{time_of, at, time_of-same, time_of-filter}
 use Rattle.prta_ticksim.proofs.BacklogByTick.{by_tick, by_tick-same, by_tick_is_by_release, ByRelease, any}
 use Rattle.prta_ticksim.proofs.Delays.{IsDelayed, delayed_is}
 use Rattle.prta_ticksim.proofs.OwnFinish.{up_to, own_before, own_at_end}
 
--- ---- of two listed jobs one goes before the other
-
-module _ (order : List ℕ) where
-  higher_goes : (a b : Job) → place order a.task < place order b.task → Goes order a b
-  higher_goes a b higher = by_place (place order a.task) (place order b.task) a.release b.release higher
-    where
-      by_place : (p q r s : ℕ) → p < q → (nat_lt p q || (nat_eq p q && nat_lt r s)) ≡ true
-      by_place p q r s higher = grind (arith, nat_tests)
-
-  earlier_goes : (a b : Job) → a.task ≡ b.task → a.release < b.release → Goes order a b
-  earlier_goes a b same earlier = by_release (place order a.task) (place order b.task) a.release b.release (ap (place order) same) earlier
-    where
-      by_release : (p q r s : ℕ) → p ≡ q → r < s → (nat_lt p q || (nat_eq p q && nat_lt r s)) ≡ true
-      by_release p q r s same earlier = grind (arith, nat_tests)
-
-  are_apart : (a b : Job) → place order b.task < length order → InOrder a b → Apart order a b
-  are_apart a b within in_order =
-      elim (cases_eq a.task b.task) [
-        | inl same ↦ inl (earlier_goes a b same (in_order.1 same))
-        | inr other ↦
-            elim (cases_order (place order a.task) (place order b.task)) [
-              | inl one ↦ absurd (other (same_place order a.task b.task within one))
-              | inr (inl higher) ↦ inl (higher_goes a b higher)
-              | inr (inr lower) ↦ inr (higher_goes b a lower)
-            ]
-      ]
-
--- ---- the finish
-
 module _ (order : List ℕ) (start : List Timed) (in_order : Pairs InOrder (jobs_of start)) (ordered : Each (λ job. place order job.task < length order) (jobs_of start)) where
-  apart : Pairs (Apart order) (jobs_of start)
-  apart = Pairs-weaker (λ (job : Job). place order job.task < length order) InOrder (Apart order) (λ a b p q o. are_apart order a b q o) (jobs_of start) ordered in_order
-
   by_release : Pairs ByRelease start
   by_release = Pairs-from_map (λ (a b : Job). a.release ≤ b.release) (λ e. e.job) start (Pairs-weaker (λ (job : Job). place order job.task < length order) InOrder _ (λ a b p q o. o.0) (jobs_of start) ordered in_order)
 
@@ -96,6 +63,6 @@ module _ (order : List ℕ) (start : List Timed) (in_order : Pairs InOrder (jobs
 
     pub finish_is : IsFinish order start job (finish_by_backlog order start job)
     finish_is = record {
-      done = own_at_end order start apart job within takes later_above after_own above_released ticks (delayed r ticks later_above) first ends;
-      least = own_before order start apart job within takes later_above after_own above_released ticks (delayed r ticks later_above) first ends;
+      done = own_at_end order start (all_apart order (jobs_of start) ordered in_order) job within takes later_above after_own above_released ticks (delayed r ticks later_above) first ends;
+      least = own_before order start (all_apart order (jobs_of start) ordered in_order) job within takes later_above after_own above_released ticks (delayed r ticks later_above) first ends;
     }

@@ -1,5 +1,5 @@
 pub mod Positions
-pub mod TimedLists
+pub mod TimedJobs
 pub mod Waiting
 pub mod Ticks
 pub mod Finishes
@@ -9,6 +9,7 @@ pub mod Times
 pub mod FirstLines
 pub mod Each
 pub mod Sums
+pub mod Ticked
 pub mod Places
 pub mod JobOrder
 pub mod FirstPending
@@ -20,7 +21,6 @@ pub mod OwnFinish
 pub mod LevelFinish
 pub mod Misses
 pub mod ScheduleLaw
-pub mod TimedJobs
 pub mod JobList
 pub mod LevelFound
 pub mod BacklogSteps

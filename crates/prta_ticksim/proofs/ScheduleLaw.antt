@@ -7,23 +7,24 @@ use Rattle.std.proofs.lemmas.List.Sums.{get_or-le-sum_by}
 use Rattle.std.proofs.lemmas.Bool.{both_ways, and_from, eq-eqb}
 use Rattle.std.proofs.lemmas.Bool.Decides.{nat_tests}
 use Rattle.prta_sheet.specs.Sheet.{Task}
-use Rattle.prta_sheet.specs.Job.{Job, jobs_before}
+use Rattle.prta_sheet.specs.Job.{Job}
 use Rattle.prta_sheet.specs.Assignment.{Timed}
 use Rattle.prta_sheet.specs.Machine.{place, is_job, remaining, IsFinish}
+use Rattle.prta_jobs.specs.Laws.{OrdersHavePlaces, JobsAreBefore}
 use Rattle.prta_jobs.specs.Backlog.{level_jobs, jobs_above, finish_by_backlog, backlog_at, delayed, released_until, released_after}
 use Rattle.prta_ticksim.specs.ScheduleToBacklog.{jobs_of, IsListed, ScheduleToBacklog}
-use Rattle.prta_ticksim.proofs.Each.{Pairs, Each-weaker}
+use Rattle.prta_ticksim.proofs.Each.{Pairs}
 use Rattle.prta_ticksim.proofs.Sums.{sum_by-filter}
-use Rattle.prta_ticksim.proofs.JobOrder.{InOrder, IsBefore, before_is, before_in_order}
-use Rattle.prta_ticksim.proofs.Places.{place_within}
+use Rattle.prta_ticksim.proofs.JobOrder.{InOrder, before_in_order}
+use Rattle.prta_ticksim.proofs.Analysed.{placed}
 use Rattle.prta_ticksim.proofs.LevelFinish.{finish_is}
 use Rattle.prta_ticksim.proofs.Misses.{one_finish, misses_late}
 
-module _ (tasks : List Task) (t : ℕ) (order : List ℕ) (start : List Timed) (job : Job) (is : IsListed tasks t order start job) where
+module _ (have_places : OrdersHavePlaces) (are_before : JobsAreBefore) (tasks : List Task) (t : ℕ) (order : List ℕ) (start : List Timed) (job : Job) (is : IsListed tasks t order start job) where
   ordered : Each (λ other. place order other.task < length order) (jobs_of start)
   ordered =
       subst (Each (λ (other : Job). place order other.task < length order)) (sym is.whole)
-      (Each-weaker (IsBefore (length tasks) t) _ (λ other h. place_within (length tasks) order is.permutation other.task h.0) (jobs_before tasks t) (before_is tasks t))
+      (placed have_places are_before tasks order is.permutation t)
 
   within : place order job.task < length order
   within =
@@ -79,15 +80,15 @@ module _ (order : List ℕ) (start : List Timed) (job : Job) where
 
 -- ---- the law
 
-pub schedule_to_backlog : ScheduleToBacklog
-schedule_to_backlog = record {
-  finish = finishes;
-  only = λ tasks t order start job is n at_n. one_finish order job start n _ at_n (finishes tasks t order start job is);
-  miss = λ tasks t order start job is deadline. misses_late order job start deadline _ (finishes tasks t order start job is);
+pub schedule_to_backlog : OrdersHavePlaces → JobsAreBefore → ScheduleToBacklog
+schedule_to_backlog have_places are_before = record {
+  finish = finishes have_places are_before;
+  only = λ tasks t order start job is n at_n. one_finish order job start n _ at_n (finishes have_places are_before tasks t order start job is);
+  miss = λ tasks t order start job is deadline. misses_late order job start deadline _ (finishes have_places are_before tasks t order start job is);
   level = level_alone;
   others = λ tasks t order start other job is is_other same n at_n.
-      let here : n ≡ finish_by_backlog order start job = one_finish order job start n _ at_n (finishes tasks t order start job is) in
+      let here : n ≡ finish_by_backlog order start job = one_finish order job start n _ at_n (finishes have_places are_before tasks t order start job is) in
       let there : finish_by_backlog order start job ≡ finish_by_backlog order other job =
       sym (level_alone order start job) ∙ ap (λ (es : List Timed). finish_by_backlog order es job) same ∙ level_alone order other job in
-      subst (IsFinish order other job) (sym (here ∙ there)) (finishes tasks t order other job is_other);
+      subst (IsFinish order other job) (sym (here ∙ there)) (finishes have_places are_before tasks t order other job is_other);
 }

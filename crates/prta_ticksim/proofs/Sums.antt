@@ -1,6 +1,7 @@
 -- Sums over a list.
-use Rattle.std.proofs.Common.{◌≡◌, ℕ, ◌+◌, Bool, true, false, cond, List, [], ◌∷◌, map, filter, sum_by, refl, arith}
+use Rattle.std.proofs.Common.{◌≡◌, ℕ, ◌+◌, Bool, true, false, cond, List, [], ◌∷◌, get_or, map, filter, sum_by, refl, arith}
 use Rattle.std.specs.List.{AllByRecursion as Each}
+use Rattle.std.proofs.lemmas.List.Elements.{recursion_from_All}
 use Rattle.std.proofs.lemmas.List.Sums.{sum_by-cons}
 
 module _ {X : Type 0} where
@@ -10,8 +11,7 @@ module _ {X : Type 0} where
   sum_by-each f g (x ∷ xs) h = omega (arith, sum_by-cons f x xs, sum_by-cons g x xs, sum_by-each f g xs h.1, h.0)
 
   pub sum_by-same : (f g : X → ℕ) → ((x : X) → f x ≡ g x) → (xs : List X) → sum_by f xs ≡ sum_by g xs
-  sum_by-same f g same [] = refl
-  sum_by-same f g same (x ∷ xs) = omega (arith, sum_by-cons f x xs, sum_by-cons g x xs, sum_by-same f g same xs, same x)
+  sum_by-same f g same xs = sum_by-each f g xs (recursion_from_All (λ x. f x ≡ g x) xs (λ k d low. same (get_or xs k d)))
 
   pub sum_by-none : (f : X → ℕ) (xs : List X) → Each (λ x. f x ≡ 0) xs → sum_by f xs ≡ 0
   sum_by-none f [] h = refl

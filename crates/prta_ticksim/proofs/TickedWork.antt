@@ -1,5 +1,5 @@
 -- The released work of some jobs, where no other jobs go before them, is a backlog: each tick takes 1 of it, and each release adds to it.
-use Rattle.std.proofs.Common.{◌≡◌, ℕ, zero, suc, ◌+◌, ◌-◌, ◌≤◌, Bool, true, false, ◌&&◌, cond, nat_le, nat_lt, if◌then◌else◌, List, [], ◌∷◌, map, refl, ap, sym, ◌∙◌, subst, arith, inl, inr}
+use Rattle.std.proofs.Common.{◌≡◌, ℕ, zero, suc, ◌+◌, ◌-◌, ◌≤◌, Bool, true, false, ◌&&◌, cond, nat_le, nat_lt, List, ◌∷◌, refl, ap, sym, ◌∙◌, subst, arith, inl, inr}
 use Rattle.std.specs.List.{list_all}
 use Rattle.std.proofs.lemmas.Bool.{both_ways, cases_Bool, and_parts}
 use Rattle.std.proofs.lemmas.Bool.Decides.{nat_tests}
@@ -9,7 +9,8 @@ use Rattle.prta_sheet.specs.Machine.{is_pending, is_served, tick, after}
 use Rattle.prta_ticksim.specs.ScheduleToBacklog.{jobs_of}
 use Rattle.prta_ticksim.proofs.Each.{Pairs, Each-weaker, Pairs-from_map}
 use Rattle.prta_ticksim.proofs.Sums.{sum_by-same, sum_by-map}
-use Rattle.prta_ticksim.proofs.FirstPending.{Goes, Apart, IsFirst, Behind, find_first, ticked, tick_idle, tick_first}
+use Rattle.prta_ticksim.proofs.Ticked.{ticked, jobs_after}
+use Rattle.prta_ticksim.proofs.FirstPending.{Goes, Apart, IsFirst, Behind, find_first, tick_idle, tick_first}
 use Rattle.prta_ticksim.proofs.TimeOf.{time_of, until, later, at, time_of-none, time_of-append, time_of-cons, all_is, later_is}
 
 -- only jobs that pass go before a job that passes
@@ -99,23 +100,11 @@ module _ (order : List ℕ) (t : ℕ) (p : Job → Bool) where
             rw serves (released (p e.job) e.job.release (e.time - 1) e.time (and_parts (nat_le e.job.release t) (nat_lt 0 e.time) pending).0)
         each e false passes = rw passes refl
 
-jobs_kept : (f : Timed → Timed) → ((e : Timed) → (f e).job ≡ e.job) → (es : List Timed) → jobs_of (map f es) ≡ jobs_of es
-jobs_kept f same [] = refl
-jobs_kept f same (e ∷ es) = ap (λ (job : Job). job ∷ jobs_of (map f es)) (same e) ∙ ap (λ (jobs : List Job). e.job ∷ jobs) (jobs_kept f same es)
-
 -- ---- the machine, from a start where of two jobs one goes before the other
 
 module _ (order : List ℕ) (start : List Timed) (apart : Pairs (Apart order) (jobs_of start)) where
-  jobs_after : (n : ℕ) → jobs_of (after order start n) ≡ jobs_of start
-  jobs_after zero = refl
-  jobs_after (suc n) = jobs_kept (ticked order n (after order start n)) (λ e. same e (is_served order n (after order start n) e)) (after order start n) ∙ jobs_after n
-    where
-      same : (e : Timed) (b : Bool) → (if b then record e { time = e.time - 1 } else e).job ≡ e.job
-      same e true = refl
-      same e false = refl
-
   apart_after : (n : ℕ) → Pairs (λ a b. Apart order a.job b.job) (after order start n)
-  apart_after n = Pairs-from_map (Apart order) (λ e. e.job) (after order start n) (subst (Pairs (Apart order)) (sym (jobs_after n)) apart)
+  apart_after n = Pairs-from_map (Apart order) (λ e. e.job) (after order start n) (subst (Pairs (Apart order)) (sym (jobs_after order start n)) apart)
 
   module _ (p : Job → Bool) where
     later_after : (n m : ℕ) → n ≤ suc m → time_of (later p m) (after order start n) ≡ time_of (later p m) start

@@ -5,15 +5,12 @@ use Rattle.std.proofs.lemmas.Bool.{cases_eq, cases_lt, false_from_ne_true, both_
 use Rattle.std.proofs.lemmas.List.{length-map, get_or-map, get_or-set_same, get_or-set_other, length-set, ext_get_or, set-get_or, set-set}
 use Rattle.prta_sheet.specs.Job.{Job}
 use Rattle.prta_sheet.specs.Assignment.{Timed}
-use Rattle.prta_sheet.specs.Machine.{is_served, tick, after}
-use Rattle.prta_ticksim.specs.Serving.{job_at, AreApart, is_waiting, IsFirstOf, NoneWaits}
-use Rattle.prta_ticksim.specs.Machine.{timed_jobs}
-use Rattle.prta_ticksim.proofs.TimedLists.{timed_at, no_timed, length-timed, timed_get}
+use Rattle.prta_sheet.specs.Machine.{tick, after}
+use Rattle.prta_ticksim.specs.Times.{timed_jobs, job_at}
+use Rattle.prta_ticksim.specs.Serving.{AreApart, is_waiting, IsFirstOf, NoneWaits}
+use Rattle.prta_ticksim.proofs.TimedJobs.{timed_at, no_timed, length-timed, timed_get}
+use Rattle.prta_ticksim.proofs.Ticked.{ticked}
 use Rattle.prta_ticksim.proofs.Waiting.{waiting_parts, waiting_from, serves, none_served, served_here, not_served_elsewhere}
-
--- what a tick makes of a listed job
-abbrev pub ticked : List ℕ → ℕ → List Timed → Timed → Timed
-ticked order t state e = if is_served order t state e then record e { time = e.time - 1 } else e
 
 module _ (order : List ℕ) (jobs : List Job) where
   -- a tick, place by place
@@ -28,9 +25,9 @@ module _ (order : List ℕ) (jobs : List Job) where
       (λ i low.
       let within : i < length jobs = omega arith in
       get_or-map f state i no_timed no_timed (omega (arith, length-timed jobs left each))
-      ∙ ap f (timed_get jobs left i no_timed each within)
+      ∙ ap f (timed_get jobs left each i no_timed within)
       ∙ same i within
-      ∙ sym (timed_get jobs next i no_timed each_next within))
+      ∙ sym (timed_get jobs next each_next i no_timed within))
 
   -- no tick is taken where none waits
   idle_tick : (t : ℕ) (left : List ℕ) → length left ≡ length jobs → NoneWaits jobs left t (length jobs) → tick order t (timed_jobs jobs left) ≡ timed_jobs jobs left

@@ -5,10 +5,9 @@ use Rattle.prta_mass.specs.Table.{Table, IsTable}
 use Rattle.prta_sheet.specs.Sheet.{Task}
 use Rattle.prta_sheet.specs.Job.{Job, table_of}
 use Rattle.prta_sheet.specs.Accepted.{IsTask}
+use Rattle.prta_ticksim.specs.Times.{timed_jobs, job_at}
 use Rattle.prta_ticksim.specs.Start.{has_time, is_foreign, first_foreign}
-use Rattle.prta_ticksim.specs.Serving.{job_at}
-use Rattle.prta_ticksim.specs.Machine.{timed_jobs}
-use Rattle.prta_ticksim.proofs.TimedLists.{timed_at, no_timed, timed_get, length-timed}
+use Rattle.prta_ticksim.proofs.TimedJobs.{timed_at, no_timed, timed_get, length-timed}
 use Rattle.prta_ticksim.proofs.Positions.{nowhere_fails}
 
 -- a table's times are at least 1
@@ -25,7 +24,7 @@ pub times_positive : (cap : ℕ) (tasks : List Task) (jobs : List Job) (times : 
     first_foreign tasks jobs times ≡ None → (i : ℕ) → i < length jobs → 0 < get_or times i 0
 times_positive cap tasks jobs times each accepted on_sheet none i low =
     let fails : is_foreign tasks (timed_at jobs times i) ≡ false =
-    ap (is_foreign tasks) (sym (timed_get jobs times i no_timed each low)) ∙ nowhere_fails (is_foreign tasks) (timed_jobs jobs times) no_timed none i (omega (arith, length-timed jobs times each)) in
+    ap (is_foreign tasks) (sym (timed_get jobs times each i no_timed low)) ∙ nowhere_fails (is_foreign tasks) (timed_jobs jobs times) no_timed none i (omega (arith, length-timed jobs times each)) in
     let table : Table = table_of tasks (job_at jobs i) in
     let is_table : IsTable table = (accepted (job_at jobs i).task _ (on_sheet i _ low)).table in
     positive table (get_or times i 0) (λ k within. is_table.positive_times k (0, 0) within) (not-false (has_time table (get_or times i 0)) fails)

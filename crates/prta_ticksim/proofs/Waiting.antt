@@ -7,10 +7,10 @@ use Rattle.std.proofs.lemmas.List.Folds.{list_all_at}
 use Rattle.prta_sheet.specs.Job.{Job}
 use Rattle.prta_sheet.specs.Assignment.{Timed}
 use Rattle.prta_sheet.specs.Machine.{is_pending, goes_before, is_served}
-use Rattle.prta_ticksim.specs.Serving.{job_at, AreApart, is_waiting, IsFirstOf, NoneWaits, IsFirstWaiting}
-use Rattle.prta_ticksim.specs.Machine.{timed_jobs}
+use Rattle.prta_ticksim.specs.Times.{timed_jobs, job_at}
+use Rattle.prta_ticksim.specs.Serving.{AreApart, is_waiting, IsFirstOf, NoneWaits, IsFirstWaiting}
 use Rattle.prta_ticksim.proofs.Positions.{position_here, position_nowhere}
-use Rattle.prta_ticksim.proofs.TimedLists.{timed_at, no_timed, length-timed, timed_get}
+use Rattle.prta_ticksim.proofs.TimedJobs.{timed_at, no_timed, length-timed, timed_get}
 
 module _ (jobs : List Job) (left : List ℕ) (t i : ℕ) where
   pub waiting_parts : is_waiting jobs left t i ≡ true → ((job_at jobs i).release ≤ t) × (0 < get_or left i 0)
@@ -49,7 +49,7 @@ module _ (order : List ℕ) (jobs : List Job) (left : List ℕ) (each : length l
         and_from (is_waiting jobs left t k) (list_all (way k) state) first.waiting
         (list_all-from_AllPass (way k) state (λ i d low.
         let within : i < length jobs = omega (arith, length-timed jobs left each) in
-        ap (way k) (timed_get jobs left i d each within) ∙ gives_way i within))
+        ap (way k) (timed_get jobs left each i d within) ∙ gives_way i within))
 
     pub not_served_elsewhere : AreApart order jobs → (i : ℕ) → i < length jobs → (i ≡ k → ⊥) → serves i ≡ false
     not_served_elsewhere apart i low other =
@@ -59,21 +59,21 @@ module _ (order : List ℕ) (jobs : List Job) (left : List ℕ) (each : length l
               true_from_ne_false (goes_before order (job_at jobs k) (job_at jobs i)) (λ not_before. other (apart i k low first.listed (first.first i low waits) not_before)) in
               let stops : way i (timed_at jobs left k) ≡ false = rw (first.waiting, before) refl in
               and_right (is_waiting jobs left t i) (list_all (way i) state)
-              (list_all_at (way i) state k no_timed (omega (arith, length-timed jobs left each, first.listed)) (ap (way i) (timed_get jobs left k no_timed each first.listed) ∙ stops))
+              (list_all_at (way i) state k no_timed (omega (arith, length-timed jobs left each, first.listed)) (ap (way i) (timed_get jobs left each k no_timed first.listed) ∙ stops))
           | inr not_yet ↦ and_left (is_waiting jobs left t i) (list_all (way i) state) not_yet
         ]
 
     pub runs_here : AreApart order jobs → position (is_served order t state) state ≡ Some k
     runs_here apart =
         position_here (is_served order t state) state k no_timed (omega (arith, length-timed jobs left each, first.listed))
-        (ap (is_served order t state) (timed_get jobs left k no_timed each first.listed) ∙ served_here)
-        (λ i low. ap (is_served order t state) (timed_get jobs left i no_timed each (omega (arith, first.listed))) ∙ not_served_elsewhere apart i (omega (arith, first.listed)) (λ e. omega arith))
+        (ap (is_served order t state) (timed_get jobs left each k no_timed first.listed) ∙ served_here)
+        (λ i low. ap (is_served order t state) (timed_get jobs left each i no_timed (omega (arith, first.listed))) ∙ not_served_elsewhere apart i (omega (arith, first.listed)) (λ e. omega arith))
 
   pub none_runs : NoneWaits jobs left t (length jobs) → position (is_served order t state) state ≡ None
   none_runs none =
       position_nowhere (is_served order t state) state no_timed (λ i low.
       let within : i < length jobs = omega (arith, length-timed jobs left each) in
-      ap (is_served order t state) (timed_get jobs left i no_timed each within) ∙ none_served none i within)
+      ap (is_served order t state) (timed_get jobs left each i no_timed within) ∙ none_served none i within)
 
 -- so what is answered for the first waiting job is the place of the served one
 pub first_runs : (order : List ℕ) (jobs : List Job) → AreApart order jobs → (left : List ℕ) → length left ≡ length jobs → (t : ℕ) (first : Option ℕ) →

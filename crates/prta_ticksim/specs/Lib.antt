@@ -1,8 +1,8 @@
-pub mod Machine
+pub mod Times
 pub mod Serving
+pub mod Machine
 pub mod Start
 pub mod Run
 pub mod Choices
 pub mod Worked
-pub mod Times
 pub mod ScheduleToBacklog

@@ -1,15 +1,10 @@
 -- The state of the machine: the model's state with listed jobs after some ticks.
-use Rattle.std.specs.Prelude.{◌≡◌, ℕ, ◌<◌, ◌≤◌, ◌^◌, Option, List, [], ◌∷◌, length, position, slice_index}
+use Rattle.std.specs.Prelude.{◌≡◌, ℕ, ◌<◌, ◌≤◌, ◌^◌, Option, List, length, position, slice_index}
 use Rattle.prta_sheet.specs.Job.{Job}
 use Rattle.prta_sheet.specs.Assignment.{Timed}
 use Rattle.prta_sheet.specs.Machine.{is_served, after, IsFinish}
-use Rattle.prta_ticksim.specs.Serving.{AreApart, job_at}
-
--- jobs with their times, in the order of the jobs
-abbrev pub timed_jobs : List Job → List ℕ → List Timed
-timed_jobs [] times = []
-timed_jobs (job ∷ jobs) [] = []
-timed_jobs (job ∷ jobs) (time ∷ times) = record { job = job; time = time } ∷ timed_jobs jobs times
+use Rattle.prta_ticksim.specs.Times.{timed_jobs, job_at}
+use Rattle.prta_ticksim.specs.Serving.{AreApart}
 
 -- what a contract sees of a machine: the order of priorities, the jobs with the times assigned to them, the time up to which it
 -- runs, and the number of ticks that it has made

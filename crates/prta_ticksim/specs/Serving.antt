@@ -1,11 +1,8 @@
 -- Which of listed jobs is to be served, from the time left to each.
-use Rattle.std.specs.Prelude.{◌≡◌, ℕ, ◌<◌, ◌≤◌, Bool, true, false, ◌&&◌, nat_lt, nat_le, Option, Some, None, List, length, slice_index, slice_index_or}
+use Rattle.std.specs.Prelude.{◌≡◌, ℕ, ◌<◌, ◌≤◌, Bool, true, false, ◌&&◌, nat_lt, nat_le, Option, Some, None, List, length, slice_index}
 use Rattle.prta_sheet.specs.Job.{Job}
 use Rattle.prta_sheet.specs.Machine.{goes_before}
-
--- the job at a place of a list
-abbrev pub job_at : List Job → ℕ → Job
-job_at jobs i = slice_index_or jobs i (record { task = 0; number = 0; release = 0 })
+use Rattle.prta_ticksim.specs.Times.{job_at}
 
 -- no two jobs of a list stand equal: one of them goes before the other
 abbrev pub AreApart : List ℕ → List Job → Type 0

@@ -7,7 +7,8 @@ use Rattle.prta_sheet.specs.Job.{Job, table_of, analysed_jobs}
 use Rattle.prta_sheet.specs.Assignment.{Timed}
 use Rattle.prta_ticksim.specs.declared.fault.MachineFault.{MachineFault}
 use Rattle.prta_ticksim.specs.declared.fault.MachineFault.TheVariants.{WrongCount, NotInTable, NoMemory}
-use Rattle.prta_ticksim.specs.Machine.{timed_jobs, MachineParts}
+use Rattle.prta_ticksim.specs.Times.{timed_jobs}
+use Rattle.prta_ticksim.specs.Machine.{MachineParts}
 
 -- a table has a time
 abbrev pub has_time : Table → ℕ → Bool

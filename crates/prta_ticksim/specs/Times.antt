@@ -6,9 +6,9 @@ use Rattle.prta_sheet.specs.Job.{Job, jobs_before}
 use Rattle.prta_sheet.specs.Assignment.{Timed}
 use Rattle.prta_jobs.specs.TaskSet.{holds}
 
--- the jobs, the i-th with the i-th time
-abbrev pub timed : List Job → List ℕ → List Timed
-timed jobs times = map (λ pair. record { job = pair.0; time = pair.1 }) (zip jobs times)
+-- jobs with their times, the i-th with the i-th time
+abbrev pub timed_jobs : List Job → List ℕ → List Timed
+timed_jobs jobs times = map (λ pair. record { job = pair.0; time = pair.1 }) (zip jobs times)
 
 -- of jobs with their times, those of the tasks in a set
 abbrev pub jobs_in : List Bool → List Timed → List Timed

@@ -5,12 +5,12 @@ ghost use Rattle.prta_sheet.specs.declared.limits.TheConstants.{TIME_LIMIT};
 ghost use Rattle.prta_sheet.specs.Machine.{IsFinish};
 ghost use Rattle.prta_jobs.specs.Permutation.{is_order};
 ghost use Rattle.prta_jobs.specs.Backlog.{released_until, released_after, backlog_at, delayed, finish_by_backlog};
-ghost use Rattle.prta_ticksim.specs.Times.{timed, jobs_in, job_at, AreAllBefore, IsTime, IsJobList};
+ghost use Rattle.prta_ticksim.specs.Times.{timed_jobs, jobs_in, job_at, AreAllBefore, IsTime, IsJobList};
 
 #[cfg(test)]
 mod tests;
 
-use prta_jobs::{Job, Jobs, Order, TaskSet};
+use prta_jobs::{Job, Jobs, Order, TaskSet, jobs_are_before, orders_have_places};
 use prta_sheet::Sheet;
 
 /// When the i-th of the jobs is finished, in ticks, where just these jobs are released and the k-th takes the k-th
@@ -22,9 +22,11 @@ pub fn finish_by_backlog(sheet: &Sheet, order: &Order, jobs: &Jobs, times: &[u32
     requires one_each { length times.now ≡ length jobs.now }
     requires times { All IsTime times.now }
     requires job { i < length jobs.now }
-    ensures value { result ≡ finish_by_backlog order.now (timed jobs.now times.now) (job_at jobs.now i) }
-    ensures finish { IsFinish order.now (timed jobs.now times.now) (job_at jobs.now i) result }
+    ensures value { result ≡ finish_by_backlog order.now (timed_jobs jobs.now times.now) (job_at jobs.now i) }
+    ensures finish { IsFinish order.now (timed_jobs jobs.now times.now) (job_at jobs.now i) result }
 {
+    orders_have_places();
+    jobs_are_before();
     let tasks = sheet.tasks().len();
     let jobs = jobs.list();
     let own = jobs[i];
@@ -40,7 +42,7 @@ fn backlog_at(level: TaskSet, jobs: &[Job], times: &[u32], time: u64) -> u64
     requires jobs { IsJobList jobs.now }
     requires one_each { length times.now ≡ length jobs.now }
     requires times { All IsTime times.now }
-    ensures value { result ≡ backlog_at 0 0 (released_until time (jobs_in level (timed jobs.now times.now))) time }
+    ensures value { result ≡ backlog_at 0 0 (released_until time (jobs_in level (timed_jobs jobs.now times.now))) time }
     ensures bound { result ≤ length jobs.now * TIME_LIMIT }
 {
     let mut backlog: u64 = 0;
@@ -62,7 +64,7 @@ fn delayed(above: TaskSet, jobs: &[Job], times: &[u32], from: u64, backlog: u64)
     requires one_each { length times.now ≡ length jobs.now }
     requires times { All IsTime times.now }
     requires bound { backlog ≤ length jobs.now * TIME_LIMIT }
-    ensures value { result ≡ delayed from backlog (released_after from (jobs_in above (timed jobs.now times.now))) }
+    ensures value { result ≡ delayed from backlog (released_after from (jobs_in above (timed_jobs jobs.now times.now))) }
     ensures bound { result ≤ 2 * (length jobs.now * TIME_LIMIT) }
 {
     let mut ticks = backlog;

@@ -3,7 +3,8 @@
 ghost use Rattle.std.specs.Prelude.{◌≡◌, ◌↔◌, ℕ, ◌+◌, ◌<◌, ◌≤◌, ◌^◌, true, length, slice_index, IsNone, IfNone, IfSome, IfOk};
 ghost use Rattle.prta_sheet.specs.Machine.{remaining, IsFinish};
 ghost use Rattle.prta_jobs.specs.Permutation.{is_order};
-ghost use Rattle.prta_ticksim.specs.Serving.{job_at, AreApart};
+ghost use Rattle.prta_ticksim.specs.Times.{job_at};
+ghost use Rattle.prta_ticksim.specs.Serving.{AreApart};
 ghost use Rattle.prta_ticksim.specs.Machine.{start_of, state_after, running};
 ghost use Rattle.prta_ticksim.specs.Start.{IsMachineAnswer};
 ghost use Rattle.prta_ticksim.specs.Run.{IsLongestRun};
@@ -124,6 +125,7 @@ impl Machine {
         ensures unmoved { IfNone result (self.new ≡ self.old) }
         ensures from { IfSome result (λ run. run.from ≡ self.old.ticks) }
         ensures run { IfSome result (IsLongestRun self.old) }
+        ensures job { IfSome result (λ run. IfSome run.who (λ i. i < length self.old.jobs)) }
         ensures moved { IfSome result (λ run. self.new ≡ record self.old { ticks = run.to }) }
     {
         if self.ticks == self.horizon {
@@ -175,6 +177,7 @@ impl Machine {
         ensures rest { self.new ≡ record self.old { ticks = self.new.ticks } }
         ensures later { self.old.ticks < self.new.ticks }
         ensures within { self.new.ticks ≤ t }
+        ensures job { IfSome result (λ i. i < length self.old.jobs) }
         ensures same { (n : ℕ) → self.old.ticks ≤ n → n < self.new.ticks → running self.old n ≡ result }
     {
         let who = first_waiting(&self.order, self.jobs.list(), &self.left, self.ticks);

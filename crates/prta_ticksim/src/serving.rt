@@ -3,7 +3,8 @@
 ghost use Rattle.std.specs.Prelude.{◌≡◌, ◌+◌, ◌-◌, ◌^◌, ◌<◌, ◌≤◌, true, nat_eq, min, length, position, slice_index, slice_set, IfSome};
 ghost use Rattle.std.specs.Option.{option_map_or};
 ghost use Rattle.prta_sheet.specs.Machine.{place, goes_before};
-ghost use Rattle.prta_ticksim.specs.Serving.{is_waiting, job_at, IsFirstWaiting, IsNextEvent};
+ghost use Rattle.prta_ticksim.specs.Times.{job_at};
+ghost use Rattle.prta_ticksim.specs.Serving.{is_waiting, IsFirstWaiting, IsNextEvent};
 
 use prta_jobs::Job;
 

@@ -8,7 +8,7 @@ ghost use Rattle.prta_ticksim.specs.Serving.{AreApart};
 ghost use Rattle.prta_ticksim.specs.Start.{has_time, first_foreign, IsCheckedAnswer};
 
 use crate::fault::MachineFault;
-use prta_jobs::{Job, Jobs, jobs_before, orders_have_places};
+use prta_jobs::{Job, Jobs, jobs_are_before, jobs_before, orders_have_places};
 use prta_mass::{NoMemory, TimeTable};
 use prta_sheet::{Sheet, Task};
 use std::alloc::Global;
@@ -26,6 +26,7 @@ pub(crate) fn checked_jobs(
     ensures apart { IfOk result (AreApart order.now) }
 {
     orders_have_places();
+    jobs_are_before();
     let want = sheet.all_jobs();
     let got = times.len();
     if want != got {

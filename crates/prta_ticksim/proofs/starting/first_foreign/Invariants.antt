@@ -1,7 +1,7 @@
 -- each time so far is in its job's table
 use Rattle.std.proofs.Common.{◌≡◌, ℕ, ◌<◌, false}
 use Rattle.prta_ticksim.specs.Start.{is_foreign}
-use Rattle.prta_ticksim.proofs.TimedLists.{timed_at}
+use Rattle.prta_ticksim.proofs.TimedJobs.{timed_at}
 use Rattle.prta_ticksim.proofs.starting.first_foreign.Given as goal
 
 abbrev pub invariant-loop-i : goal.invariant-loop-i
