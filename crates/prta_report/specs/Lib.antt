@@ -1,2 +1,4 @@
 pub mod Page
 pub mod Text
+pub mod Trace
+pub mod WorkedTraces

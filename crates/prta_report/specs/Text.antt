@@ -1,5 +1,5 @@
 -- The texts that the program writes.
-use Rattle.std.specs.Prelude.{ℕ, ◌++◌, nat_eq, List, filter, flat_map, length, codes, decimal}
+use Rattle.std.specs.Prelude.{ℕ, ◌++◌, nat_eq, Option, Some, None, List, filter, flat_map, length, codes, decimal}
 use Rattle.prta_mass.specs.Decimal.{decimal_below, decimal_above}
 use Rattle.prta_sheet.specs.Sheet.{Task, Sheet, task_at, sheet_order, hyperperiod}
 use Rattle.prta_sheet.specs.Job.{Job, deadline_of, analysed_jobs}
@@ -34,3 +34,15 @@ analyse_text sheet numbers =
     head_text (hyperperiod sheet.tasks) (length (analysed_jobs sheet))
     ++ flat_map (λ job. line_of sheet.tasks job (numbers job)) (jobs_by_task sheet)
     ++ codes "end\n"
+
+-- the line of a stretch of ticks in which a job runs, or none
+unfoldable pub busy_line : List ℕ → ℕ → ℕ → ℕ → List ℕ
+busy_line name number from to =
+    codes "run " ++ decimal from ++ codes " " ++ decimal to ++ codes " " ++ name ++ codes " " ++ decimal number ++ codes "\n"
+
+unfoldable pub idle_line : ℕ → ℕ → List ℕ
+idle_line from to = codes "idle " ++ decimal from ++ codes " " ++ decimal to ++ codes "\n"
+
+abbrev pub run_line : List Task → Option Job → ℕ → ℕ → List ℕ
+run_line tasks (Some job) from to = busy_line (task_at tasks job.task).name job.number from to
+run_line tasks None from to = idle_line from to
