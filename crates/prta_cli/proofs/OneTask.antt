@@ -1,5 +1,5 @@
 -- The one job of a simple sheet.
-use Rattle.std.proofs.Common.{◌≡◌, ℕ, zero, suc, ◌+◌, ◌*◌, ◌<◌, true, nat_eq, nat_le, List, [], ◌∷◌, ◌++◌, length, All, ap, ap₂, sym, ◌∙◌, subst, refl, arith, append-nil, codes}
+use Rattle.std.proofs.Common.{◌≡◌, zero, suc, ◌+◌, ◌*◌, ◌<◌, true, nat_eq, nat_le, List, [], ◌∷◌, ◌++◌, length, All, ap, sym, ◌∙◌, subst, refl, arith, append-nil, codes}
 use Rattle.std.proofs.lemmas.Bool.{and_parts, eqb-true}
 use Rattle.prta_mass.specs.Table.{greatest}
 use Rattle.prta_sheet.specs.declared.settings.Settings.{Settings}

@@ -1,5 +1,5 @@
 -- What the program answers to words, where a shelf tells its files.
-use Rattle.std.specs.Prelude.{ℕ, Option, Some, None, option_and_then, List, [], codes, if◌then◌else◌}
+use Rattle.std.specs.Prelude.{◌≡◌, ℕ, Option, Some, None, IsSomeAnd, option_and_then, List, [], codes, if◌then◌else◌}
 use Rattle.std.specs.Option.{option_map_or}
 use Rattle.prta_sheet.specs.Sheet.{Sheet}
 use Rattle.prta_sheet.specs.declared.fault.SheetFault.{SheetFault}
@@ -7,11 +7,14 @@ use Rattle.prta_sheet.specs.Stated.{sheet_stated}
 use Rattle.prta_sheet.specs.Refusal.{refusal}
 use Rattle.prta_report.specs.Text.{analyse_text}
 use Rattle.prta_cli.specs.declared.status.Status.{Status}
-use Rattle.prta_cli.specs.declared.status.Status.TheVariants.{Done, Usage, SheetRefused, ReadFault, WriteFault, NoMemory, NotYet}
-use Rattle.prta_cli.specs.Words.{sheet_name}
+use Rattle.prta_cli.specs.declared.status.Status.TheVariants.{Done, Usage, SheetRefused, InputRefused, ReadFault, WriteFault, NoMemory, NotYet}
+use Rattle.prta_cli.specs.declared.times.TimesFault.{TimesFault}
+use Rattle.prta_cli.specs.Words.{Command, analyse, simulate, command, sheet_name}
 use Rattle.prta_cli.specs.Quotients.{numbers_of}
 use Rattle.prta_cli.specs.Simple.{is_simple}
-use Rattle.prta_cli.specs.Refused.{refused_line}
+use Rattle.prta_cli.specs.Times.{times_in, times_fault}
+use Rattle.prta_report.specs.Trace.{simulate_text}
+use Rattle.prta_cli.specs.Refused.{refused_line, input_line}
 
 -- a status, the text for out and the line for err
 pub record Answer : Type 0 where
@@ -19,11 +22,12 @@ pub record Answer : Type 0 where
   pub out : List ℕ
   pub err : List ℕ
 
--- the line on err by the status alone; Done has none, and that of a refused sheet tells more
+-- the line on err by the status alone; Done has none, and that of a refused file tells more
 abbrev pub err_line : Status → List ℕ
 err_line Done = []
 err_line Usage = codes "prta: usage\n"
 err_line SheetRefused = []
+err_line InputRefused = []
 err_line ReadFault = codes "prta: read fault\n"
 err_line WriteFault = codes "prta: write fault\n"
 err_line NoMemory = codes "prta: no memory\n"
@@ -39,37 +43,60 @@ plain status = record { status = status; out = []; err = err_line status }
 abbrev pub refused : SheetFault → Answer
 refused fault = record { status = SheetRefused; out = []; err = refused_line fault }
 
--- by the accepted sheet, by the first condition that fails, by what is held under the name, and by the name that the words give
-abbrev pub answer_to_sheet : Sheet → Answer
-answer_to_sheet sheet = if is_simple sheet then told (analyse_text sheet (numbers_of sheet)) else plain NotYet
+abbrev pub input_refused : TimesFault → Answer
+input_refused fault = record { status = InputRefused; out = []; err = input_line fault }
 
-abbrev pub answer_by : Option SheetFault → Option Sheet → Answer
-answer_by (Some fault) sheet = refused fault
-answer_by None sheet = option_map_or answer_to_sheet sheet (plain NotYet)
+-- to `analyse`, by the accepted sheet
+abbrev pub analysis : Sheet → Answer
+analysis sheet = if is_simple sheet then told (analyse_text sheet (numbers_of sheet)) else plain NotYet
 
-abbrev pub answer_to_file : Option (List ℕ) → Answer
-answer_to_file None = plain ReadFault
-answer_to_file (Some bytes) = answer_by (refusal bytes) (sheet_stated bytes)
+-- to `simulate`, by the accepted sheet and by what is held under the name of the times
+abbrev pub simulation : Sheet → Option (List ℕ) → Answer
+simulation sheet None = plain ReadFault
+simulation sheet (Some bytes) = option_map_or input_refused (times_fault sheet bytes) (told (simulate_text sheet (times_in bytes)))
 
-abbrev pub answer_to_name : (List ℕ → Option (List ℕ)) → Option (List ℕ) → Answer
-answer_to_name files None = plain Usage
-answer_to_name files (Some name) = answer_to_file (files name)
+-- the names of files, and the bytes under them
+abbrev pub Files : Type 0
+Files = List ℕ → Option (List ℕ)
 
--- the answer to words
-abbrev pub answer : (List ℕ → Option (List ℕ)) → List (List ℕ) → Answer
-answer files words = answer_to_name files (sheet_name words)
+abbrev pub answer_to_sheet : Files → Command → Sheet → Answer
+answer_to_sheet files (analyse name) sheet = analysis sheet
+answer_to_sheet files (simulate name times) sheet = simulation sheet (files times)
 
--- the sheet that is stated under a name, and by the file that words name
-abbrev pub sheet_under : (List ℕ → Option (List ℕ)) → List ℕ → Option Sheet
+-- by the first condition that fails on a sheet, and by what is held under its name; bytes that no condition refuses state a sheet, so the
+-- last case of `answer_by` without one doesn't come
+abbrev pub answer_by : (Sheet → Answer) → Option SheetFault → Option Sheet → Answer
+answer_by answers (Some fault) sheet = refused fault
+answer_by answers None sheet = option_map_or answers sheet (plain NotYet)
+
+abbrev pub answer_to_file : (Sheet → Answer) → Option (List ℕ) → Answer
+answer_to_file answers None = plain ReadFault
+answer_to_file answers (Some bytes) = answer_by answers (refusal bytes) (sheet_stated bytes)
+
+-- the answer to a command, and to words
+abbrev pub answer_to : Files → Command → Answer
+answer_to files c = answer_to_file (answer_to_sheet files c) (files (sheet_name c))
+
+abbrev pub answer : Files → List (List ℕ) → Answer
+answer files words = option_map_or (answer_to files) (command words) (plain Usage)
+
+-- no condition refuses the bytes that are held, and they state the sheet
+abbrev pub IsSheetOf : Option (List ℕ) → Sheet → Type 0
+IsSheetOf held sheet = IsSomeAnd held (λ bytes. (refusal bytes ≡ None) × (sheet_stated bytes ≡ Some sheet))
+
+-- no condition refuses them
+abbrev pub IsAcceptedFile : Option (List ℕ) → Type 0
+IsAcceptedFile held = IsSomeAnd held (λ bytes. refusal bytes ≡ None)
+
+-- the sheet that is stated under a name
+abbrev pub sheet_under : Files → List ℕ → Option Sheet
 sheet_under files name = option_and_then sheet_stated (files name)
-
-abbrev pub sheet_named : (List ℕ → Option (List ℕ)) → List (List ℕ) → Option Sheet
-sheet_named files words = option_and_then (sheet_under files) (sheet_name words)
 
 abbrev pub status_number : Status → ℕ
 status_number Done = 0
 status_number Usage = 2
 status_number SheetRefused = 3
+status_number InputRefused = 4
 status_number ReadFault = 5
 status_number WriteFault = 6
 status_number NoMemory = 7

@@ -1,36 +1,73 @@
 -- What the answers of the program are tied to.
-use Rattle.std.specs.Prelude.{◌≡◌, ℕ, ◌<◌, ◌⊎◌, Option, IfSome, IsSomeAnd, List, ⊤}
+use Rattle.std.specs.Prelude.{◌≡◌, ℕ, ◌<◌, ◌⊎◌, Option, IfSome, IsSomeAnd, List, [], ◌∷◌, ◌++◌, ⊤}
 use Rattle.prta_outside.specs.Shelf.{count_of}
 use Rattle.prta_sheet.specs.declared.fault.SheetFault.{SheetFault}
 use Rattle.prta_cli.specs.declared.status.Status.{Status}
-use Rattle.prta_cli.specs.declared.status.Status.TheVariants.{Done, Usage, SheetRefused, ReadFault, WriteFault, NoMemory, NotYet}
-use Rattle.prta_cli.specs.Words.{sheet_name}
-use Rattle.prta_cli.specs.Answer.{answer, err_line}
-use Rattle.prta_cli.specs.Refused.{refused_line}
+use Rattle.prta_cli.specs.declared.status.Status.TheVariants.{Done, Usage, SheetRefused, InputRefused, ReadFault, WriteFault, NoMemory, NotYet}
+use Rattle.prta_cli.specs.declared.times.TimesFault.{TimesFault}
+use Rattle.prta_cli.specs.Words.{Command, analyse, simulate, command, sheet_name, second_name}
+use Rattle.prta_cli.specs.Answer.{Files, answer, err_line, sheet_under, IsAcceptedFile}
+use Rattle.prta_cli.specs.Quotients.{AreAround}
+use Rattle.prta_cli.specs.Refused.{refused_line, input_line}
 
--- between two lists of the names of a shelf's failed reads the count of the sheet's name rose
+-- between two lists of the names of a shelf's failed reads the count of a name rose
+abbrev pub HasFailed : List (List ℕ) → List (List ℕ) → List ℕ → Type 0
+HasFailed before now name = count_of before name < count_of now name
+
+-- that of the sheet's name
+abbrev pub SheetFailed : List (List ℕ) → List (List ℕ) → List (List ℕ) → Type 0
+SheetFailed words before now = IsSomeAnd (command words) (λ c. HasFailed before now (sheet_name c))
+
+-- that of the second file's name, where the command has a second file
+abbrev pub SecondFailed : List (List ℕ) → List (List ℕ) → List (List ℕ) → Type 0
+SecondFailed words before now = IsSomeAnd (command words) (λ c. IsSomeAnd (second_name c) (HasFailed before now))
+
+-- that of a name that the command reads
 abbrev pub ReadFailed : List (List ℕ) → List (List ℕ) → List (List ℕ) → Type 0
-ReadFailed words before now = IsSomeAnd (sheet_name words) (λ name. count_of before name < count_of now name)
+ReadFailed words before now = SheetFailed words before now ⊎ SecondFailed words before now
+
+-- the read of the sheet failed, or after that of an accepted sheet the read of the second file
+abbrev pub IsReadFault : Option Files → Command → List (List ℕ) → List (List ℕ) → Type 0
+IsReadFault held c before now =
+    (now ≡ before ++ sheet_name c ∷ [])
+    ⊎ (IsSomeAnd (second_name c) (λ name. now ≡ before ++ name ∷ []) × IfSome held (λ files. IsAcceptedFile (files (sheet_name c))))
+
+-- where the words ask for an analysis: a sheet is stated under the name, and its numbers are around the exact chances
+abbrev pub IsAnalysed : Files → Command → Type 0
+IsAnalysed files (analyse name) = IsSomeAnd (sheet_under files name) AreAround
+IsAnalysed files (simulate name times) = ⊤
+
+-- where a shelf tells its files, the answer to the words has the status
+abbrev pub AnswerIs : Option Files → List (List ℕ) → Status → Type 0
+AnswerIs held words status = IfSome held (λ files. (answer files words).status ≡ status)
 
 -- a status, or want of memory in its place
-abbrev pub IsUnlessMemory : Status → Status → Type 0
-IsUnlessMemory status wanted = (status ≡ wanted) ⊎ (status ≡ NoMemory)
+abbrev pub IsOrNoMemory : Status → Status → Type 0
+IsOrNoMemory status wanted = (status ≡ wanted) ⊎ (status ≡ NoMemory)
 
 -- a status that comes before the first byte of out, where the words are a command
-abbrev pub IsRefusal : Status → Type 0
-IsRefusal Done = ⊥
-IsRefusal Usage = ⊥
-IsRefusal SheetRefused = ⊤
-IsRefusal ReadFault = ⊤
-IsRefusal WriteFault = ⊥
-IsRefusal NoMemory = ⊤
-IsRefusal NotYet = ⊤
+abbrev pub IsBeforeOut : Status → Type 0
+IsBeforeOut Done = ⊥
+IsBeforeOut Usage = ⊥
+IsBeforeOut SheetRefused = ⊤
+IsBeforeOut InputRefused = ⊤
+IsBeforeOut ReadFault = ⊤
+IsBeforeOut WriteFault = ⊥
+IsBeforeOut NoMemory = ⊤
+IsBeforeOut NotYet = ⊤
 
--- the line of a status: for a refused sheet that of some condition
+-- the line of a status: for a refused file that of some condition
 abbrev pub IsLine : Status → List ℕ → Type 0
 IsLine SheetRefused line = (fault : SheetFault) × (line ≡ refused_line fault)
+IsLine InputRefused line = (fault : TimesFault) × (line ≡ input_line fault)
 IsLine status line = line ≡ err_line status
 
--- and where the shelf tells its files, that of the condition by which the answer refuses the sheet
-abbrev pub IsLineFor : Option (List ℕ → Option (List ℕ)) → List (List ℕ) → Status → List ℕ → Type 0
-IsLineFor held words status line = IsLine status line × IfSome held (λ files. status ≡ SheetRefused → line ≡ (answer files words).err)
+-- a status whose line tells a condition
+abbrev pub TellsCondition : Status → Type 0
+TellsCondition SheetRefused = ⊤
+TellsCondition InputRefused = ⊤
+TellsCondition status = ⊥
+
+-- and where the shelf tells its files, that of the condition by which the answer refuses the file
+abbrev pub IsLineFor : Option Files → List (List ℕ) → Status → List ℕ → Type 0
+IsLineFor held words status line = IsLine status line × IfSome held (λ files. TellsCondition status → line ≡ (answer files words).err)

@@ -1,6 +1,7 @@
 pub mod Words
 pub mod Quotients
 pub mod Simple
+pub mod Times
 pub mod Refused
 pub mod Answer
 pub mod Ending

@@ -1,4 +1,4 @@
--- The line on err for a refused sheet: the number of the condition, and where or by what it failed.
+-- The lines on err for a refused sheet and for a refused second file: the number of the condition, and where or by what it failed.
 use Rattle.std.specs.Prelude.{ℕ, List, [], ◌++◌, codes, decimal}
 use Rattle.prta_sheet.specs.declared.fault.Place.{Place}
 use Rattle.prta_sheet.specs.declared.fault.Place.TheVariants as place
@@ -7,6 +7,8 @@ use Rattle.prta_sheet.specs.declared.fault.Key.TheVariants as key
 use Rattle.prta_sheet.specs.declared.fault.SheetFault.{SheetFault}
 use Rattle.prta_sheet.specs.declared.fault.SheetFault.TheVariants.{TooLong, NotToml, Format, UnknownKey, MissingKey, WrongKind, OutOfRange, TaskCount, BadName, RepeatedName, OffsetNotBelowPeriod, BadTable, TotalTooLarge, DeadlineNotBelowCap, HyperperiodTooLarge, TooManyJobs, TooMuchWork, NoMemory}
 use Rattle.prta_sheet.specs.Refusal.{number_of}
+use Rattle.prta_cli.specs.declared.times.TimesFault.{TimesFault}
+use Rattle.prta_cli.specs.declared.times.TimesFault.TheVariants as times
 
 abbrev pub key_text : Key → List ℕ
 key_text key.Format = codes "format"
@@ -60,3 +62,18 @@ tail NoMemory = []
 
 unfoldable pub refused_line : SheetFault → List ℕ
 refused_line fault = codes "prta: sheet refused " ++ decimal (number_of fault) ++ tail fault ++ codes "\n"
+
+abbrev pub input_number : TimesFault → ℕ
+input_number times.TooLong = 1
+input_number (times.BadLine n) = 2
+input_number (times.WrongCount n) = 3
+input_number (times.NotInTable n) = 4
+
+abbrev pub input_tail : TimesFault → List ℕ
+input_tail times.TooLong = []
+input_tail (times.BadLine n) = with_value n
+input_tail (times.WrongCount n) = with_value n
+input_tail (times.NotInTable n) = with_value n
+
+unfoldable pub input_line : TimesFault → List ℕ
+input_line fault = codes "prta: input refused " ++ decimal (input_number fault) ++ input_tail fault ++ codes "\n"

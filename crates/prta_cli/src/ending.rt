@@ -6,12 +6,13 @@ ghost use Rattle.prta_cli.specs.Ending.{status_of, line_of};
 use crate::status::Status;
 use prta_report::Page;
 
-/// A status, and for a refused sheet the line that tells why.
+/// A status, and for a refused file the line that tells why.
 #[derive(Debug, Drop)]
 pub enum Ending {
     Done,
     Usage,
     SheetRefused(Page),
+    InputRefused(Page),
     ReadFault,
     WriteFault,
     NoMemory,
@@ -27,6 +28,7 @@ impl Ending {
             Ending::Done => Status::Done,
             Ending::Usage => Status::Usage,
             Ending::SheetRefused(_) => Status::SheetRefused,
+            Ending::InputRefused(_) => Status::InputRefused,
             Ending::ReadFault => Status::ReadFault,
             Ending::WriteFault => Status::WriteFault,
             Ending::NoMemory => Status::NoMemory,
@@ -41,7 +43,7 @@ impl Ending {
         match self {
             Ending::Done => b"",
             Ending::Usage => b"prta: usage\n",
-            Ending::SheetRefused(page) => page.bytes(),
+            Ending::SheetRefused(page) | Ending::InputRefused(page) => page.bytes(),
             Ending::ReadFault => b"prta: read fault\n",
             Ending::WriteFault => b"prta: write fault\n",
             Ending::NoMemory => b"prta: no memory\n",

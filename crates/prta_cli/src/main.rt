@@ -1,16 +1,21 @@
 //! `prta`: proved bounds on the chance that a job misses its deadline.
 #![tactic(auto)]
 
+mod analysis;
 mod ending;
 mod output;
 mod quotients;
 mod refused;
 mod run;
+mod sheet;
 mod simple;
+mod simulation;
 mod status;
 #[cfg(test)]
 mod tests;
 mod text;
+mod times;
+mod trace;
 mod words;
 
 use prta_outside::{FolderShelf, StdSink};

@@ -3,9 +3,8 @@
 ghost use Rattle.std.specs.Prelude.{◌≡◌, ◌+◌, ◌≤◌, ◌++◌, IfOk, length};
 ghost use Rattle.prta_cli.specs.Refused.{refused_line, tail, at_task, at_place, at_key, key_text, with_value};
 
-use crate::text::push_number;
 use prta_mass::NoMemory;
-use prta_report::{LINE, Page};
+use prta_report::{LINE, Page, push_number};
 use prta_sheet::{Key, Place, SheetFault};
 use std::alloc::Global;
 
@@ -82,8 +81,9 @@ fn push_task(page: &mut Page, i: usize)
     push_number(page, i as u64);
 }
 
+/// What a condition was failed by.
 #[tactic(auto, unfolding(crate::specs::Refused::with_value))]
-fn push_value(page: &mut Page, n: u64)
+pub fn push_value(page: &mut Page, n: u64)
     requires { 40 ≤ page.old.spare }
     ensures written { page.new.written ≡ page.old.written ++ with_value n }
     ensures room { page.old.spare ≤ page.new.spare + 40 }

@@ -12,7 +12,9 @@ pub enum Status {
     Usage,
     /// A condition on the sheet fails: the first one is told on err.
     SheetRefused,
-    /// The sheet's file can't be read.
+    /// A condition on the second file fails: the first one is told on err.
+    InputRefused,
+    /// A file can't be read.
     ReadFault,
     /// Out failed before it took the whole text.
     WriteFault,
@@ -31,6 +33,7 @@ impl Status {
             Status::Done => 0,
             Status::Usage => 2,
             Status::SheetRefused => 3,
+            Status::InputRefused => 4,
             Status::ReadFault => 5,
             Status::WriteFault => 6,
             Status::NoMemory => 7,

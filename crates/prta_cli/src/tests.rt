@@ -1,6 +1,7 @@
 //! Runs over memory. The expected texts are worked by hand from the definitions.
 
 mod sheets;
+mod traces;
 
 use crate::run::run;
 use crate::status::Status;
@@ -8,13 +9,17 @@ use prta_outside::{MemoryShelf, MemorySink};
 use sheets::{NOT_SIMPLE, QUARTER, QUARTER_TEXT, REFUSED, REFUSED_WHOLE, SIMPLE, changed, padded};
 use std::alloc::Global;
 use std::test::Fail;
+use traces::{
+    LONG, LONG_END, LONG_START, PAIR, PAIR_TIMES, PAIR_TRACE, REFUSED_TIMES, TRACES, ones,
+};
 
 // A run of the program, and what it is to end with.
 #[derive(Clone, Copy)]
 struct Case {
     words: &'static [&'static str],
-    // The name that the shelf holds, and the number of a read that fails; 0 for none.
+    // The name of the sheet on the shelf, the file of times there, and the number of a read that fails; 0 for none.
     name: &'static str,
+    times: &'static [u8],
     failing_read: u64,
     // How many bytes out takes in all and in a call, and the number of a put that fails; 0 for none.
     room: usize,
@@ -28,10 +33,13 @@ struct Case {
 
 const NAME: &str = "s.toml";
 
+const TIMES: &str = "times";
+
 // Nothing fails.
 const SERVED: Case = Case {
     words: &["analyse", NAME],
     name: NAME,
+    times: PAIR_TIMES,
     failing_read: 0,
     room: 4_096,
     most: 4_096,
@@ -70,7 +78,7 @@ const UNREAD: Case = Case {
     ..SERVED
 };
 
-const CASES: [Case; 15] = [
+const CASES: [Case; 18] = [
     SERVED,
     // Words that are no command, and a name that begins with '-'.
     Case {
@@ -94,7 +102,19 @@ const CASES: [Case; 15] = [
         ..USAGE
     },
     Case {
-        words: &["analyse", NAME, NAME],
+        words: &["analyse", NAME, TIMES],
+        ..USAGE
+    },
+    Case {
+        words: &["simulate", NAME],
+        ..USAGE
+    },
+    Case {
+        words: &["simulate", NAME, TIMES, TIMES],
+        ..USAGE
+    },
+    Case {
+        words: &["analyse", NAME, TIMES, TIMES],
         ..USAGE
     },
     Case {
@@ -146,6 +166,7 @@ fn words_of(alloc: Global, words: &[&str]) -> Result<Vec<String>, Fail> {
 fn shelf_of(alloc: Global, case: &Case, bytes: &[u8]) -> Result<MemoryShelf, Fail> {
     let mut shelf = MemoryShelf::new(alloc);
     shelf.add(case.name, bytes)?;
+    shelf.add(TIMES, case.times)?;
     shelf.refuse(case.failing_read)?;
     Ok(shelf)
 }
@@ -242,6 +263,185 @@ fn a_full_out_has_a_prefix(rt: HostRuntime) -> Result<(), Fail> {
             ends_so(rt.alloc(), &case, QUARTER.as_bytes())?,
             "room {room}"
         );
+    }
+    Ok(())
+}
+
+// Nothing fails.
+const TRACED: Case = Case {
+    words: &["simulate", NAME, TIMES],
+    out: PAIR_TRACE,
+    ..SERVED
+};
+
+const TIMES_REFUSAL: Case = Case {
+    words: &["simulate", NAME, TIMES],
+    status: Status::InputRefused,
+    out: b"",
+    ..SERVED
+};
+
+const UNTRACED: Case = Case {
+    words: &["simulate", NAME, TIMES],
+    ..UNREAD
+};
+
+const TRACE_CASES: [Case; 11] = [
+    TRACED,
+    // A first and a second read that fail, missing names, and a third read that would fail.
+    UNTRACED,
+    Case {
+        failing_read: 2,
+        ..UNTRACED
+    },
+    Case {
+        words: &["simulate", "t.toml", TIMES],
+        failing_read: 0,
+        ..UNTRACED
+    },
+    Case {
+        words: &["simulate", NAME, "t"],
+        failing_read: 0,
+        ..UNTRACED
+    },
+    Case {
+        failing_read: 3,
+        ..TRACED
+    },
+    // The sheet in the place of the times, and a name that begins with '-'.
+    Case {
+        words: &["simulate", NAME, NAME],
+        err: b"prta: input refused 2 value 1\n",
+        ..TIMES_REFUSAL
+    },
+    Case {
+        words: &["simulate", "-s.toml", TIMES],
+        name: "-s.toml",
+        ..TRACED
+    },
+    // An err that fails at once changes no status.
+    Case {
+        times: b"2",
+        err_room: 0,
+        err: b"",
+        ..TIMES_REFUSAL
+    },
+    // Ten bytes a call, and then with a second call that fails.
+    Case { most: 10, ..TRACED },
+    Case {
+        most: 10,
+        failing_put: 2,
+        status: Status::WriteFault,
+        out: b"prta simul",
+        err: b"prta: write fault\n",
+        ..TRACED
+    },
+];
+
+#[test]
+fn every_trace_case_ends_so(rt: HostRuntime) -> Result<(), Fail> {
+    for (i, case) in TRACE_CASES.iter().enumerate() {
+        assert!(rt; ends_so(rt.alloc(), case, PAIR)?, "case {i}");
+    }
+    Ok(())
+}
+
+#[test]
+fn chosen_times_have_their_trace(rt: HostRuntime) -> Result<(), Fail> {
+    for (i, (sheet, times, out)) in TRACES.iter().enumerate() {
+        let case = Case {
+            times,
+            out,
+            ..TRACED
+        };
+        assert!(rt; ends_so(rt.alloc(), &case, sheet)?, "trace {i}");
+    }
+    Ok(())
+}
+
+#[test]
+fn times_are_refused(rt: HostRuntime) -> Result<(), Fail> {
+    for (i, (times, err)) in REFUSED_TIMES.iter().enumerate() {
+        let case = Case {
+            times,
+            err,
+            ..TIMES_REFUSAL
+        };
+        assert!(rt; ends_so(rt.alloc(), &case, PAIR)?, "times {i}");
+    }
+    Ok(())
+}
+
+// A refused sheet is told before the times are read.
+#[test]
+fn the_sheet_comes_first(rt: HostRuntime) -> Result<(), Fail> {
+    for (old, new, err) in REFUSED {
+        let sheet = changed(rt.alloc(), old, new)?;
+        let case = Case {
+            words: &["simulate", NAME, "t"],
+            failing_read: 2,
+            err,
+            ..REFUSAL
+        };
+        assert!(rt; ends_so(rt.alloc(), &case, sheet.as_bytes())?, "{new}");
+    }
+    Ok(())
+}
+
+// What out and err took of a run with these times, and its status.
+fn traced(
+    alloc: Global,
+    sheet: &[u8],
+    times: &[u8],
+) -> Result<(Status, MemorySink, MemorySink), Fail> {
+    let words = words_of(alloc, TRACED.words)?;
+    let mut shelf = MemoryShelf::new(alloc);
+    shelf.add(NAME, sheet)?;
+    shelf.add(TIMES, times)?;
+    let mut out = sink_of(alloc, 65_536, 65_536, 0)?;
+    let mut err = sink_of(alloc, 4_096, 4_096, 0)?;
+    let status = run(alloc, &words, &mut shelf, &mut out, &mut err);
+    Ok((status, out, err))
+}
+
+#[test]
+fn times_may_have_just_the_limit(rt: HostRuntime) -> Result<(), Fail> {
+    let mut times = ones(rt.alloc(), 524_288)?;
+    let (status, out, err) = traced(rt.alloc(), PAIR, &times)?;
+    assert_eq!(rt; status, Status::InputRefused);
+    assert_eq!(rt; out.bytes().len(), 0);
+    assert_eq!(rt;
+        err.bytes(),
+        b"prta: input refused 3 value 524288\n".as_slice()
+    );
+    times.push(b'1')?;
+    let (status, _, err) = traced(rt.alloc(), PAIR, &times)?;
+    assert_eq!(rt; status, Status::InputRefused);
+    assert_eq!(rt; err.bytes(), b"prta: input refused 1\n".as_slice());
+    Ok(())
+}
+
+#[test]
+fn a_long_horizon(rt: HostRuntime) -> Result<(), Fail> {
+    let times = ones(rt.alloc(), 64)?;
+    let (status, out, _) = traced(rt.alloc(), LONG, &times)?;
+    assert_eq!(rt; status, Status::Done);
+    assert!(rt; out.bytes().starts_with(LONG_START));
+    assert!(rt; out.bytes().ends_with(LONG_END));
+    Ok(())
+}
+
+#[test]
+fn a_full_out_has_a_prefix_of_a_trace(rt: HostRuntime) -> Result<(), Fail> {
+    for room in 0..PAIR_TRACE.len() {
+        let case = Case {
+            room,
+            status: Status::WriteFault,
+            out: &PAIR_TRACE[..room],
+            err: b"prta: write fault\n",
+            ..TRACED
+        };
+        assert!(rt; ends_so(rt.alloc(), &case, PAIR)?, "room {room}");
     }
     Ok(())
 }

@@ -8,9 +8,8 @@ ghost use Rattle.prta_cli.specs.Quotients.{numbers_of};
 ghost use Rattle.prta_cli.specs.Simple.{is_simple};
 
 use crate::quotients::{Bounds, quotients};
-use itoa::Buffer;
 use prta_mass::{NoMemory, decimal_down, decimal_up};
-use prta_report::{LINE, Page};
+use prta_report::{LINE, Page, push_number};
 use prta_sheet::{Sheet, Task, one_job};
 use std::alloc::Global;
 
@@ -93,14 +92,4 @@ fn push_upper(page: &mut Page, upper: u64)
     push_number(page, upper);
     page.push(b" ");
     page.push(&text);
-}
-
-/// A whole number in decimal.
-pub fn push_number(page: &mut Page, n: u64)
-    requires { 20 ≤ page.old.spare }
-    ensures written { page.new.written ≡ page.old.written ++ decimal n }
-    ensures room { page.old.spare ≤ page.new.spare + 20 }
-{
-    let mut buffer = Buffer::new();
-    page.push(buffer.format(n).as_bytes());
 }

@@ -4,7 +4,7 @@ use Rattle.prta_sheet.specs.Laws.{first_job_of}
 use Rattle.prta_report.specs.Page.{PageParts}
 use Rattle.prta_report.specs.Text.{Numbers, head_text, line_of, analyse_text}
 use Rattle.prta_cli.specs.Quotients.{numbers_of, quotients}
-use Rattle.prta_cli.proofs.OneTask.{IsAlone, is_alone, as_sheet_of, only_is_task, text_of_one, first_line}
+use Rattle.prta_cli.proofs.OneTask.{is_alone, as_sheet_of, only_is_task, text_of_one, first_line}
 use Rattle.prta_cli.proofs.text.analyse_page.Goals as goal
 
 -- the pieces as they were pushed are the parts of the text
