@@ -6,11 +6,12 @@ ghost use Rattle.prta_sheet.specs.Sheet.{task_at, horizon};
 ghost use Rattle.prta_sheet.specs.Job.{analysed_jobs, deadline_of};
 ghost use Rattle.prta_jobs.specs.Laws.{IsBefore};
 ghost use Rattle.prta_ticksim.specs.Times.{job_at};
-ghost use Rattle.prta_report.specs.Trace.{trace_text, runs_of, line_of_run, standing_line, standing_text, named_text, finished_text, left_text};
+ghost use Rattle.prta_report.specs.TraceLaws.{AreInTurn};
+ghost use Rattle.prta_report.specs.Trace.{trace_text, line_of_run, standing_line, standing_text, named_text, finished_text, left_text};
 
 use prta_jobs::{Job, jobs_are_before};
 use prta_mass::NoMemory;
-use prta_report::{LINE, Page, push_number, run_line};
+use prta_report::{LINE, Page, push_number, run_line, runs_are_longest, trace_tells_misses};
 use prta_sheet::Sheet;
 use prta_ticksim::{Machine, Run};
 use std::alloc::Global;
@@ -22,8 +23,9 @@ pub fn trace_page(alloc: Global, sheet: &Sheet, mut machine: Machine) -> Result<
     requires start { machine.ticks ≡ 0 }
     ensures { IfOk result (λ page. page.written ≡ trace_text sheet.now.tasks machine) }
 {
-    // Each job is of a task on the sheet, and the sheet's numbers are in their ranges.
+    // Each job is of a task on the sheet, the sheet's numbers are in their ranges, and there are no other longest runs.
     jobs_are_before();
+    runs_are_longest();
     let _tasks = sheet.tasks();
     let runs = all_runs(alloc, &mut machine)?;
     let lines = runs.len() + machine.jobs().len() + 2;
@@ -38,7 +40,7 @@ pub fn trace_page(alloc: Global, sheet: &Sheet, mut machine: Machine) -> Result<
 // All runs of the machine, from its first tick to the horizon.
 fn all_runs(alloc: Global, machine: &mut Machine) -> Result<Vec<Run>, NoMemory>
     requires { machine.old.ticks ≡ 0 }
-    ensures runs { IfOk result (λ runs. runs.items ≡ runs_of machine.old) }
+    ensures runs { IfOk result (λ runs. AreInTurn machine.old 0 machine.old.horizon runs.items) }
     ensures jobs { IfOk result (λ runs. All (λ run. IfSome run.who (λ i. i < length machine.old.jobs)) runs.items) }
     ensures few { IfOk result (λ runs. length runs.items ≤ machine.old.horizon) }
     ensures moved { IfOk result (λ _. machine.new ≡ record machine.old { ticks = machine.old.horizon }) }
@@ -110,6 +112,7 @@ fn push_state(page: &mut Page, machine: &Machine, i: usize, deadline: u64)
     ensures written { page.new.written ≡ page.old.written ++ standing_text machine.now deadline i }
     ensures room { page.old.spare ≤ page.new.spare + 64 }
 {
+    trace_tells_misses();
     match machine.finish(i) {
         Some(finish) => push_finished(page, deadline, finish),
         None => push_left(page, deadline, machine.remaining(i) as u64, machine.now()),

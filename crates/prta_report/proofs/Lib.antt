@@ -1,0 +1,2 @@
+pub mod RunsInTurn
+pub mod TraceMisses

@@ -1,8 +1,23 @@
-//! What the definitions of the texts give on worked values.
+//! Laws of the definitions of the texts, and what they give on worked values.
 
+ghost use Rattle.prta_report.specs.TraceLaws.{RunsAreLongest, TraceTellsMisses};
 ghost use Rattle.prta_report.specs.WorkedTraces.{WorkedTraces};
+
+use prta_ticksim::finishes_tell_misses;
 
 /// The texts of `simulate` for small sheets: preemption, late jobs, and jobs that are left at the horizon.
 pub fn worked_traces()
     ensures { WorkedTraces }
 {}
+
+/// The runs of a trace are the longest stretches from 0 to the horizon, one after the other.
+pub fn runs_are_longest()
+    ensures { RunsAreLongest }
+{}
+
+/// The finish that a job's line tells is the model's, and it, or the time that is left, decides the model's miss.
+pub fn trace_tells_misses()
+    ensures { TraceTellsMisses }
+{
+    finishes_tell_misses();
+}

@@ -6,3 +6,4 @@ pub mod Run
 pub mod Choices
 pub mod Worked
 pub mod ScheduleToBacklog
+pub mod Misses

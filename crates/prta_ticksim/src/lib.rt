@@ -19,6 +19,6 @@ pub use backlog::finish_by_backlog;
 pub use choices::{Choices, ChoicesFault, read_choices};
 pub use fault::MachineFault;
 pub use machine::Machine;
-pub use model::{worked_choices, worked_runs};
+pub use model::{finishes_tell_misses, worked_choices, worked_runs};
 pub use run::Run;
 pub use schedule::schedule_to_backlog;

@@ -1,10 +1,10 @@
-use Rattle.std.proofs.Common.{◌≡◌, ◌<◌, refl, [], ◌∷◌, ◌++◌, IfSome, length, ap, subst, sym, ◌∙◌, append_assoc, arith}
+use Rattle.std.proofs.Common.{◌≡◌, ◌<◌, refl, [], ◌∷◌, IfSome, length, ap, subst, arith}
 use Rattle.std.proofs.lemmas.List.{length-append}
 use Rattle.std.proofs.lemmas.List.Elements.{All-push}
 use Rattle.prta_ticksim.specs.declared.run.Run.{Run}
 use Rattle.prta_ticksim.specs.Machine.{MachineParts}
 use Rattle.prta_ticksim.specs.Run.{IsLongestRun}
-use Rattle.prta_cli.proofs.Runs.{at_any_tick, longest_first}
+use Rattle.prta_cli.proofs.Runs.{at_any_tick, one_more}
 use Rattle.prta_cli.proofs.trace.all_runs.Goals as goal
 
 -- the run is the first of those that were to come
@@ -19,11 +19,10 @@ loop-run-preserved c =
     let job : IfSome run.who (λ i. i < length machine.jobs) = subst (λ (m : MachineParts). IfSome run.who (λ i. i < length m.jobs)) before.rest c.in-Some.ensures.job in
     let ticks : c.next_run.new.self.ticks ≡ run.to = ap (λ (m : MachineParts). m.ticks) moved in
     let pushed = c.in_ok-push.ensures.items in
-    let next = longest_first machine run now c.in-Some.ensures.from longest in
     record {
       rest = rw (moved, before.rest) refl;
       within = omega (arith, ticks, longest.within);
-      runs = rw (pushed, ticks) (append_assoc c.loop-run.runs.items _ _ ∙ ap (λ rest. c.loop-run.runs.items ++ rest) (sym next) ∙ before.runs);
+      runs = rw (pushed, ticks) (one_more machine 0 now c.loop-run.runs.items run before.runs c.in-Some.ensures.from longest);
       jobs = rw pushed (All-push (λ (r : Run). IfSome r.who (λ i. i < length machine.jobs)) c.loop-run.runs.items run before.jobs job);
       few = omega (arith, ap length pushed, length-append c.loop-run.runs.items (run ∷ []), before.few, ticks, longest.some, c.in-Some.ensures.from);
     }

@@ -18,6 +18,6 @@ returns c =
     let head : c.push.new.self.written ≡ codes "prta simulate 1\n" = ap written c.push.ensures ∙ ap (λ (page : PageParts). page.written ++ codes "prta simulate 1\n") c.in_ok-page.ensures in
     let body : (runs c.all_runs.new.machine ++ standings c.all_runs.new.machine) ++ codes "end\n" ≡ flat_map (line_of_run tasks machine.jobs) (runs_of machine) ++ standings machine ++ codes "end\n" =
     ap (λ m. (runs m ++ standings m) ++ codes "end\n") moved
-    ∙ ap (λ all. flat_map (line_of_run tasks machine.jobs) all ++ standings machine ++ codes "end\n") c.in_ok-runs.ensures.runs in
+    ∙ ap (λ all. flat_map (line_of_run tasks machine.jobs) all ++ standings machine ++ codes "end\n") (c.runs_are_longest.ensures.only machine c.in_ok-runs.runs.items c.in_ok-runs.ensures.runs) in
     ap written c.push-2.ensures
     ∙ rw (c.push_standings.ensures.written, c.push_runs.ensures.written, c.jobs-2.ensures, c.deref.ensures.value, head) (ap (λ text. codes "prta simulate 1\n" ++ text) body)
