@@ -39,50 +39,71 @@ fn pair(alloc: Global) -> Result<Sheet, Fail> {
     Ok(make_sheet(settings, tasks)?)
 }
 
-const RUNS: [(Option<Job>, u64, u64, &[u8]); 5] = [
-    (
-        Some(Job {
-            task: 0,
-            number: 0,
-            release: 0,
-        }),
-        0,
-        2,
-        b"run 0 2 ctrl 0\n",
-    ),
-    (
-        Some(Job {
-            task: 1,
-            number: 17,
-            release: 136,
-        }),
-        136,
-        138,
-        b"run 136 138 log-2 17\n",
-    ),
-    (
-        Some(Job {
-            task: 1,
-            number: u32::MAX,
-            release: 0,
-        }),
-        0,
-        u64::MAX,
-        b"run 0 18446744073709551615 log-2 4294967295\n",
-    ),
-    (None, 0, 8, b"idle 0 8\n"),
-    (None, 99, 1_000_000, b"idle 99 1000000\n"),
+// A task and a job's number, where a job runs; the ticks; and the line.
+#[derive(Drop)]
+struct RunCase {
+    who: Option<(usize, u32)>,
+    from: u64,
+    to: u64,
+    line: &'static [u8],
+}
+
+const RUNS: [RunCase; 5] = [
+    RunCase {
+        who: Some((0, 0)),
+        from: 0,
+        to: 2,
+        line: b"run 0 2 ctrl 0\n",
+    },
+    RunCase {
+        who: Some((1, 17)),
+        from: 136,
+        to: 138,
+        line: b"run 136 138 log-2 17\n",
+    },
+    RunCase {
+        who: Some((1, u32::MAX)),
+        from: 0,
+        to: u64::MAX,
+        line: b"run 0 18446744073709551615 log-2 4294967295\n",
+    },
+    RunCase {
+        who: None,
+        from: 0,
+        to: 8,
+        line: b"idle 0 8\n",
+    },
+    RunCase {
+        who: None,
+        from: 99,
+        to: 1_000_000,
+        line: b"idle 99 1000000\n",
+    },
 ];
+
+// The page with the line of the case.
+fn line_of(alloc: Global, sheet: &Sheet, case: &RunCase) -> Result<Page, Fail> {
+    let mut page = Page::with_room(alloc, LINE)?;
+    match case.who {
+        Some((task, number)) if task < sheet.tasks().len() => {
+            let job = Job {
+                task,
+                number,
+                release: 0,
+            };
+            run_line(&mut page, sheet, Some(job), case.from, case.to);
+        }
+        _ => run_line(&mut page, sheet, None, case.from, case.to),
+    }
+    Ok(page)
+}
 
 #[test]
 fn lines_of_runs(rt: HostRuntime) -> Result<(), Fail> {
     let sheet = pair(rt.alloc())?;
-    for (job, from, to, line) in RUNS {
-        let mut page = Page::with_room(rt.alloc(), LINE)?;
-        assert!(rt; page.spare() >= LINE);
-        assert!(rt; job.is_none_or(|job| job.task < sheet.tasks().len()));
-        run_line(&mut page, &sheet, job, from, to);
-        assert_eq!(rt; page.bytes(), line);
+    for case in &RUNS {
+        let page = line_of(rt.alloc(), &sheet, case)?;
+        assert_eq!(rt; page.bytes(), case.line);
     }
     Ok(())
 }
