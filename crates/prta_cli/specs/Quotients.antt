@@ -3,17 +3,18 @@ use Rattle.std.specs.Prelude.{◌*◌, ◌/◌, All}
 use Rattle.std.specs.Int.{div_ceil}
 use Rattle.prta_mass.specs.Unit.{unit}
 use Rattle.prta_mass.specs.Table.{total}
-use Rattle.prta_sheet.specs.Sheet.{Task, Sheet, task_at, sheet_order}
+use Rattle.prta_sheet.specs.Sheet.{Task, Sheet, task_at, table_in, sheet_order}
 use Rattle.prta_sheet.specs.Job.{Job, analysed_jobs}
 use Rattle.prta_sheet.specs.Chance.{IsAround}
 use Rattle.prta_sheet.specs.Laws.{weight_above}
 use Rattle.prta_report.specs.Text.{Numbers}
 
--- the weight of the times above the deadline over the table's total, in units of 2^-60, rounded down and rounded up
+-- of a task's first job: the weight of the times above the deadline over the table's total, in units of 2^-60, rounded down and rounded up
 abbrev pub quotients : Task → Numbers
 quotients task =
-    let over = weight_above task.deadline task.table in
-    record { lower = unit * over / total task.table; upper = div_ceil (unit * over) (total task.table) }
+    let table = table_in task 0 in
+    let over = weight_above task.deadline table in
+    record { lower = unit * over / total table; upper = div_ceil (unit * over) (total table) }
 
 abbrev pub numbers_of : Sheet → Job → Numbers
 numbers_of sheet job = quotients (task_at sheet.tasks job.task)

@@ -24,6 +24,7 @@ key_text key.Offset = codes "offset"
 key_text key.Period = codes "period"
 key_text key.Deadline = codes "deadline"
 key_text key.Times = codes "times"
+key_text key.Cycle = codes "cycle"
 key_text key.Allow = codes "allow"
 
 unfoldable pub at_task : ℕ → List ℕ

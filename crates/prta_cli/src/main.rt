@@ -3,6 +3,7 @@
 
 mod analysis;
 mod ending;
+mod leave;
 mod output;
 mod quotients;
 mod refused;
@@ -18,41 +19,57 @@ mod times;
 mod trace;
 mod words;
 
+ghost use Rattle.std.specs.Prelude.{◌≡◌, ◌≢◌, ◌⊎◌, IfErr};
+ghost use Rattle.std.specs.Process.{exit_status};
+ghost use Rattle.prta_outside.specs.Sink.{HasRisen};
+
+use leave::{exit_code, without_words};
 use prta_outside::{FolderShelf, StdSink};
 use run::run;
+use status::Status;
+use std::alloc::Global;
+use std::env;
+use std::io::{Stderr, Stdout};
 use std::process::ExitCode;
-use std::{env, io};
-
-// The number where the runtime doesn't give the words, for another cause than memory.
-const NO_WORDS: u8 = 9;
+use std::rt::Files;
 
 fn main(rt: HostRuntime) -> ExitCode {
     let words = match words_of(&rt) {
         Ok(words) => words,
-        Err(number) => return ExitCode::from(number),
+        Err(code) => return code,
     };
     let mut shelf = FolderShelf::new(&rt, rt.alloc());
     let mut out = StdSink::new(rt.stdout());
     let mut err = StdSink::new(rt.stderr());
-    let status = run(rt.alloc(), &words, &mut shelf, &mut out, &mut err);
-    ExitCode::from(status.number())
+    exit_code(serve(rt.alloc(), &words, &mut shelf, &mut out, &mut err))
 }
 
-// The words after the program's name, or the number to end with.
-fn words_of(rt: &HostRuntime) -> Result<Vec<String>, u8> {
+// Runs over files, the standard output and the standard error: a line on what is wrong leaves the standard output alone.
+fn serve<R: Files>(
+    alloc: Global,
+    words: &[String],
+    shelf: &mut FolderShelf<'_, R>,
+    out: &mut StdSink<Stdout>,
+    err: &mut StdSink<Stderr>,
+) -> Status
+    ensures write_fault { result ≡ Status.WriteFault → HasRisen out.old.faults out.new.faults }
+    ensures nothing { result ≢ Status.Done → result ≢ Status.WriteFault → out.new ≡ out.old }
+    ensures no_read_fault { result ≢ Status.ReadFault → shelf.new.failed ≡ shelf.old.failed }
+{
+    run(alloc, words, shelf, out, err)
+}
+
+// The words after the program's name, or the number to end with: 7 for want of memory, else 9.
+fn words_of(rt: &HostRuntime) -> Result<Vec<String>, ExitCode>
+    ensures { IfErr result (λ code. (exit_status code ≡ 7) ⊎ (exit_status code ≡ 9)) }
+{
     let mut args = match env::args(rt) {
         Ok(args) => args,
-        Err(fault) => {
-            return Err(if fault.kind() == io::ErrorKind::OutOfMemory {
-                status::Status::NoMemory.number()
-            } else {
-                NO_WORDS
-            });
-        }
+        Err(fault) => return Err(without_words(fault.kind())),
     };
     let _program = args.next();
     match args.collect(rt.alloc()) {
         Ok(words) => Ok(words),
-        Err(_) => Err(status::Status::NoMemory.number()),
+        Err(_) => Err(exit_code(Status::NoMemory)),
     }
 }

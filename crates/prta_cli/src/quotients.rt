@@ -18,14 +18,15 @@ pub struct Bounds {
     pub upper: u64,
 }
 
-/// The weight of the times above the deadline over the table's total, rounded down and rounded up.
+/// The weight of the times of the first job above the deadline over the total of its table, rounded down and rounded up.
 pub fn quotients(task: &Task) -> Bounds
+    requires { 1 ≤ length task.now.cycle }
     ensures lower { result.lower ≡ (quotients task.now).lower }
     ensures upper { result.upper ≡ (quotients task.now).upper }
     ensures lower_limit { result.lower ≤ unit }
     ensures upper_limit { result.upper ≤ unit }
 {
-    let table = task.table();
+    let table = task.table(0);
     let over = weight_above(task.deadline(), table.points());
     let share = UNIT as u128 * over;
     let all = table.total() as u128;

@@ -110,6 +110,7 @@ fn key_text(key: Key) -> &'static [u8]
         Key::Period => b"period",
         Key::Deadline => b"deadline",
         Key::Times => b"times",
+        Key::Cycle => b"cycle",
         Key::Allow => b"allow",
     }
 }

@@ -6,7 +6,7 @@ ghost use Rattle.prta_cli.specs.Simple.{is_simple};
 
 use prta_sheet::Sheet;
 
-/// One task whose times fit its period, over one hyperperiod.
+/// One task with one table, whose times fit its period, over one hyperperiod.
 pub fn is_simple(sheet: &Sheet) -> bool
     ensures simple { result ≡ is_simple sheet.now }
     ensures accepted { IsAccepted sheet.now }
@@ -15,5 +15,6 @@ pub fn is_simple(sheet: &Sheet) -> bool
     if tasks.len() != 1 || sheet.settings().hyperperiods != 1 {
         return false;
     }
-    tasks[0].table().greatest() <= tasks[0].period()
+    let task = &tasks[0];
+    task.cycle().len() == 1 && task.table(0).greatest() <= task.period()
 }

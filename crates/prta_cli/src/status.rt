@@ -16,7 +16,7 @@ pub enum Status {
     InputRefused,
     /// A file can't be read.
     ReadFault,
-    /// Out failed before it took the whole text.
+    /// Out failed. It took a prefix of the text; all of it may have gone out where only its flush failed.
     WriteFault,
     /// Want of memory.
     NoMemory,

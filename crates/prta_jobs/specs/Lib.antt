@@ -1,5 +1,5 @@
 pub mod TaskSet
-pub mod Small
+pub mod Ranges
 pub mod Instant
 pub mod Permutation
 pub mod Order

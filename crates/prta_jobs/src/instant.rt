@@ -2,7 +2,7 @@
 
 ghost use Rattle.std.specs.Prelude.{◌≡◌, ℕ, ◌+◌, ◌^◌, ◌<◌, ◌≤◌, length};
 ghost use Rattle.prta_jobs.specs.TaskSet.{holds};
-ghost use Rattle.prta_jobs.specs.Small.{AreSmall};
+ghost use Rattle.prta_jobs.specs.Ranges.{AreSheetTasks};
 ghost use Rattle.prta_jobs.specs.Instant.{is_released, IsOnSheet, HasTask, IsLeastRelease, IsInstant};
 
 use crate::releases::{is_release, next_release};
@@ -53,7 +53,7 @@ pub fn next_instant(sheet: &Sheet, level: TaskSet, after: u64) -> Instant
 
 // The first instant of the level from a time on.
 pub(crate) fn instant_from(tasks: &[Task], level: TaskSet, from: u64) -> Instant
-    requires small { AreSmall tasks.now }
+    requires sheet { AreSheetTasks tasks.now }
     requires on_sheet { IsOnSheet tasks.now (holds level) }
     requires some { HasTask (holds level) }
     requires from { from ≤ 2 ^ 41 }
@@ -69,7 +69,7 @@ pub(crate) fn instant_from(tasks: &[Task], level: TaskSet, from: u64) -> Instant
 
 // The first time from another one on at which a task of the level releases a job.
 pub(crate) fn least_release(tasks: &[Task], level: TaskSet, from: u64) -> u64
-    requires small { AreSmall tasks.now }
+    requires sheet { AreSheetTasks tasks.now }
     requires on_sheet { IsOnSheet tasks.now (holds level) }
     requires some { HasTask (holds level) }
     requires from { from ≤ 2 ^ 41 }
@@ -87,7 +87,7 @@ pub(crate) fn least_release(tasks: &[Task], level: TaskSet, from: u64) -> u64
 
 // The tasks of the level that release a job at a time.
 fn released_at(tasks: &[Task], level: TaskSet, time: u64) -> TaskSet
-    requires small { AreSmall tasks.now }
+    requires sheet { AreSheetTasks tasks.now }
     requires on_sheet { IsOnSheet tasks.now (holds level) }
     ensures { (i : ℕ) → holds result i ≡ is_released tasks.now (holds level) time i }
 {
@@ -102,7 +102,7 @@ fn released_at(tasks: &[Task], level: TaskSet, time: u64) -> TaskSet
 
 // Whether task i is of the level and releases a job at a time.
 fn is_released(tasks: &[Task], level: TaskSet, time: u64, i: usize) -> bool
-    requires small { AreSmall tasks.now }
+    requires sheet { AreSheetTasks tasks.now }
     requires task { i < length tasks.now }
     ensures { result ≡ is_released tasks.now (holds level) time i }
 {

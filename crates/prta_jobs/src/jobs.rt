@@ -3,7 +3,7 @@
 ghost use Rattle.std.specs.Prelude.{◌≡◌, ◌<◌, ◌≤◌, ◌^◌, ◌∷◌, ◌++◌, [], true, length, IfOk, OnOk};
 ghost use Rattle.prta_sheet.specs.Sheet.{task_at};
 ghost use Rattle.prta_sheet.specs.Job.{is_release, released_by, released_at, jobs_before};
-ghost use Rattle.prta_jobs.specs.Small.{AreSmall};
+ghost use Rattle.prta_jobs.specs.Ranges.{AreSheetTasks};
 
 use crate::instant::least_release;
 use crate::job::Job;
@@ -51,7 +51,7 @@ pub fn jobs_before(alloc: Global, sheet: &Sheet, t: u64) -> Result<Jobs, NoMemor
 
 // The jobs of these tasks before t. Memory is taken once, since the length of the list is known.
 pub(crate) fn list_before(alloc: Global, tasks: &[Task], t: u64) -> Result<Vec<Job>, NoMemory>
-    requires small { AreSmall tasks.now }
+    requires sheet { AreSheetTasks tasks.now }
     requires time { t ≤ 2 ^ 32 }
     ensures { IfOk result (λ jobs. jobs.items ≡ jobs_before tasks.now t) }
 {
@@ -71,7 +71,7 @@ pub(crate) fn list_before(alloc: Global, tasks: &[Task], t: u64) -> Result<Vec<J
 
 // Appends the jobs that are released at a time, in the order of their tasks.
 fn push_released(jobs: &mut Vec<Job>, tasks: &[Task], at: u64) -> Result<(), NoMemory>
-    requires small { AreSmall tasks.now }
+    requires sheet { AreSheetTasks tasks.now }
     requires time { at < 2 ^ 32 }
     ensures { OnOk result (jobs.new.items ≡ jobs.old.items ++ released_at 0 tasks.now at) }
 {
@@ -85,7 +85,7 @@ fn push_released(jobs: &mut Vec<Job>, tasks: &[Task], at: u64) -> Result<(), NoM
 
 // The job that task i releases at a time.
 fn job_at(tasks: &[Task], i: usize, at: u64) -> Job
-    requires small { AreSmall tasks.now }
+    requires sheet { AreSheetTasks tasks.now }
     requires task { i < length tasks.now }
     requires time { at < 2 ^ 32 }
     requires release { is_release (task_at tasks.now i) at ≡ true }

@@ -13,7 +13,8 @@ pub fn orders_have_places()
     ensures { OrdersHavePlaces }
 {}
 
-/// Each of all jobs before a time is of a task on the sheet, and is released before that time.
+/// Each of all jobs before a time is of a task on the sheet, is released before that time, and is the job that its task
+/// and its number say.
 pub fn jobs_are_before()
     ensures { JobsAreBefore }
 {}

@@ -47,7 +47,7 @@ impl Order {
     ghost use Rattle.prta_jobs.specs.Order.{IsOrderAnswer};
 
     /// The order of these task numbers, the highest priority first. It is NotPermutation where a number is no task
-    /// of the sheet, or a task is missing or repeated, and nowhere else. Memory is taken last.
+    /// of the sheet, or a task is missing or repeated, and nowhere else; for these numbers no memory is wanted.
     pub fn new(alloc: Global, sheet: &Sheet, tasks: &[usize]) -> Result<Order, OrderFault>
         ensures { IsOrderAnswer (length sheet.now.tasks) tasks.now result }
     {

@@ -2,31 +2,16 @@
 
 ghost use Rattle.std.specs.Prelude.{◌≡◌, ◌+◌, ◌*◌, ◌^◌, ◌<◌, ◌≤◌, length, true};
 ghost use Rattle.prta_sheet.specs.Job.{is_release, jobs_before};
-ghost use Rattle.prta_sheet.specs.Counts.{releases};
-ghost use Rattle.prta_jobs.specs.Small.{IsSmall, AreSmall};
+ghost use Rattle.prta_jobs.specs.Ranges.{HasShortPeriod, AreSheetTasks};
 ghost use Rattle.prta_jobs.specs.Instant.{IsNextRelease};
 
-use prta_sheet::{PERIOD_LIMIT, Task, releases_before};
+use prta_sheet::{PERIOD_LIMIT, Task, releases, releases_before};
 
 // The release of the task's job of this number.
 pub(crate) fn release_of(task: &Task, number: u32) -> u64
     ensures { result ≡ task.now.offset + number * task.now.period }
 {
     task.offset() as u64 + number as u64 * task.period() as u64
-}
-
-// How often the task releases before a time.
-pub(crate) fn releases(task: &Task, time: u64) -> u64
-    requires { 1 ≤ task.now.period }
-    ensures value { result ≡ releases task.now time }
-    ensures bound { result ≤ time }
-{
-    let offset = task.offset() as u64;
-    if time <= offset {
-        0
-    } else {
-        (time - offset - 1) / task.period() as u64 + 1
-    }
 }
 
 // Whether the task releases a job at a time.
@@ -40,7 +25,7 @@ pub(crate) fn is_release(task: &Task, time: u64) -> bool
 
 // The first time from another one on at which the task releases a job.
 pub(crate) fn next_release(task: &Task, from: u64) -> u64
-    requires small { IsSmall task.now }
+    requires period { HasShortPeriod task.now }
     requires from { from ≤ 2 ^ 41 }
     ensures next { IsNextRelease task.now from result }
     ensures near { result < from + PERIOD_LIMIT }
@@ -51,7 +36,7 @@ pub(crate) fn next_release(task: &Task, from: u64) -> u64
 
 // The number of the jobs before a time, without a list of them.
 pub(crate) fn count_before(tasks: &[Task], time: u64) -> u64
-    requires small { AreSmall tasks.now }
+    requires sheet { AreSheetTasks tasks.now }
     requires time { time ≤ 2 ^ 32 }
     ensures { result ≡ length (jobs_before tasks.now time) }
 {

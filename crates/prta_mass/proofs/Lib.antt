@@ -2,3 +2,4 @@ pub mod Find
 pub mod Totals
 pub mod Faults
 pub mod Faultless
+pub mod Near

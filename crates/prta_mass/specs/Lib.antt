@@ -1,4 +1,9 @@
 pub mod Unit
 pub mod Decimal
+pub mod Direction
 pub mod Table
 pub mod Support
+pub mod Chances
+pub mod Passing
+pub mod Limits
+pub mod WorkedChances

@@ -3,13 +3,14 @@
 ghost use Rattle.std.specs.Prelude.{◌≡◌, ◌≢◌, ℕ, ◌+◌, ◌<◌, ◌≤◌, Some, None, length, IfOk, IfErr, IsOk};
 ghost use Rattle.prta_mass.specs.Table.{Table, total, mean_times_total, greatest, zero_time, zero_weight, not_increasing, shape_fault, fault_of, IsTable, FaultlessPairs};
 
+use crate::divisor::Divisor;
 use crate::memory::NoMemory;
 use std::alloc::Global;
 use std::marker::Model;
 use thiserror::Error;
 
 /// The weights of a table sum to at most this.
-pub const TOTAL_LIMIT: u64 = 4_294_967_296;
+pub const TOTAL_LIMIT: u64 = 281_474_976_710_656;
 
 /// A table has at most this many points.
 pub const POINT_LIMIT: usize = 32;
@@ -33,7 +34,7 @@ pub enum TableFault {
     #[error("the weight at place {0} is 0")]
     ZeroWeight(usize),
     /// The weights sum to more than `TOTAL_LIMIT`.
-    #[error("the weights sum to more than 4294967296")]
+    #[error("the weights sum to more than 281474976710656")]
     TotalTooLarge,
     /// Want of memory.
     #[error("no memory")]
@@ -44,6 +45,7 @@ pub enum TableFault {
 #[derive(Debug, Drop)]
 pub struct TimeTable {
     points: Vec<(u32, u64)>,
+    divisor: Divisor,
 }
 
 impl Model for TimeTable {
@@ -51,7 +53,7 @@ impl Model for TimeTable {
 
     ghost view = { λ t. t.points.items };
 
-    ghost invariant = { λ t. IsTable t.points.items };
+    ghost invariant = { λ t. IsTable t.points.items × (t.divisor.total ≡ total t.points.items) };
 }
 
 impl TimeTable {
@@ -67,9 +69,18 @@ impl TimeTable {
             return Err(fault);
         }
         match Vec::from_slice(alloc, pairs) {
-            Ok(points) => Ok(TimeTable { points }),
+            Ok(points) => Ok(TimeTable::of_points(points)),
             Err(_) => Err(TableFault::NoMemory),
         }
+    }
+
+    // The table of pairs that make one.
+    fn of_points(points: Vec<(u32, u64)>) -> TimeTable
+        requires { IsTable points.items }
+        ensures { result ≡ points.items }
+    {
+        let divisor = Divisor::new(total_of(&points) as u64);
+        TimeTable { points, divisor }
     }
 
     /// The pairs of a time in ticks and its weight, by rising time.
@@ -88,7 +99,15 @@ impl TimeTable {
         ensures some { 0 < result }
         ensures table { IsTable self.now }
     {
-        total_of(&self.points) as u64
+        self.divisor.total
+    }
+
+    /// What divides by the total.
+    pub fn divisor(&self) -> Divisor
+        ensures total { result.total ≡ total self.now }
+        ensures table { IsTable self.now }
+    {
+        self.divisor
     }
 
     /// The sum of time times weight: the mean time, in ticks, multiplied by the total.
@@ -103,7 +122,10 @@ impl TimeTable {
         ensures { IfOk result (λ table. table ≡ self.now) }
     {
         let points = Vec::from_slice(alloc, &self.points)?;
-        Ok(TimeTable { points })
+        Ok(TimeTable {
+            points,
+            divisor: self.divisor,
+        })
     }
 
     /// The greatest time, in ticks.

@@ -29,7 +29,10 @@ fn pairs_of_no_table_have_their_first_fault(rt: HostRuntime) -> Result<(), Fail>
         (&[(2, 1), (1, 1), (0, 0)], TableFault::ZeroTime(2)),
         (&[(7, 3), (3, 0)], TableFault::NotIncreasing(1)),
         (&[(3, 1), (7, 0)], TableFault::ZeroWeight(1)),
-        (&[(3, 4_294_967_296), (7, 1)], TableFault::TotalTooLarge),
+        (
+            &[(3, 281_474_976_710_656), (7, 1)],
+            TableFault::TotalTooLarge,
+        ),
         (
             &[(3, 18_446_744_073_709_551_615), (7, 2)],
             TableFault::TotalTooLarge,
@@ -41,7 +44,7 @@ fn pairs_of_no_table_have_their_first_fault(rt: HostRuntime) -> Result<(), Fail>
             "{want}"
         );
     }
-    assert!(rt; TimeTable::new(rt.alloc(), &[(3, 4_294_967_296)]).is_ok());
+    assert!(rt; TimeTable::new(rt.alloc(), &[(3, 281_474_976_710_656)]).is_ok());
     let _ = many.pop();
     assert!(rt; TimeTable::new(rt.alloc(), &many).is_ok());
     Ok(())
@@ -89,6 +92,37 @@ fn decimals_are_rounded_in_their_direction(rt: HostRuntime) {
             assert_eq!(rt; text.as_slice(), down, "{u} down");
             decimal_up(u, &mut text);
             assert_eq!(rt; text.as_slice(), up, "{u} up");
+        }
+    }
+}
+
+#[test]
+fn quotients_and_remainders_are_exact(rt: HostRuntime) {
+    let unit = UNIT as u128;
+    // a total, a sum, the quotient and the remainder
+    let cases: [(u64, u128, u64, u64); 8] = [
+        (1, unit, UNIT, 0),
+        (3, 3 * unit - 1, UNIT - 1, 2),
+        (4, 4 * unit, UNIT, 0),
+        (4, 4 * unit - 1, UNIT - 1, 3),
+        (1000, 1000 * unit - 1, UNIT - 1, 999),
+        (4_294_967_296, 4_294_967_295, 0, 4_294_967_295),
+        (281_474_976_710_655, 281_474_976_710_655 * unit, UNIT, 0),
+        (
+            281_474_976_710_656,
+            281_474_976_710_656 * unit - 1,
+            UNIT - 1,
+            281_474_976_710_655,
+        ),
+    ];
+    for (total, sum, quotient, rest) in cases {
+        if 0 < total && total < 1 << 62 && sum <= total as u128 * unit {
+            assert!(rt;
+                Divisor::new(total).divide(sum) == (quotient, rest),
+                "{sum} by {total}"
+            );
+        } else {
+            assert!(rt; false, "{sum} by {total}");
         }
     }
 }

@@ -1,10 +1,24 @@
 //! The names of failed reads.
 
-ghost use Rattle.std.specs.Prelude.{◌≡◌, ◌-◌, ◌++◌, [], ◌∷◌, length, take, OnOk, OnErr};
+ghost use Rattle.std.specs.Prelude.{◌≡◌, ◌-◌, ◌++◌, [], ◌∷◌, length, take, IfOk, OnOk, OnErr};
 
 use prta_mass::NoMemory;
 use std::alloc::Global;
 use std::marker::Model;
+
+// A name whose fault is noted. Only `Faults::note` makes one, so that what asks for it comes after the memory is taken.
+#[derive(Clone, Copy, Debug)]
+pub(crate) struct Noted<'a> {
+    name: &'a str,
+}
+
+impl<'a> Noted<'a> {
+    pub(crate) fn name(self) -> &'a str
+        ensures { result.now ≡ self.entry.name.now }
+    {
+        self.name
+    }
+}
 
 // The names of failed reads, in order.
 #[derive(Debug, Drop)]
@@ -30,13 +44,14 @@ impl Faults {
     }
 
     // Notes the fault of a read that is still to come, since this takes memory.
-    pub(crate) fn note(&mut self, alloc: Global, name: &str) -> Result<(), NoMemory>
+    pub(crate) fn note<'a>(&mut self, alloc: Global, name: &'a str) -> Result<Noted<'a>, NoMemory>
         ensures noted { OnOk result (self.new ≡ self.old ++ name.now ∷ []) }
+        ensures same { IfOk result (λ noted. noted.name.now ≡ name.now) }
         ensures unchanged { OnErr result (self.new ≡ self.old) }
     {
-        let name = String::from_str(alloc, name)?;
-        self.names.push(name)?;
-        Ok(())
+        let copy = String::from_str(alloc, name)?;
+        self.names.push(copy)?;
+        Ok(Noted { name })
     }
 
     // The names, for tests.

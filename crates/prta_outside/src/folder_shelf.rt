@@ -1,13 +1,13 @@
 //! A shelf over the file system.
 
-ghost use Rattle.std.specs.Prelude.{◌≡◌, ◌+◌, ◌-◌, ◌^◌, ◌<◌, ◌≤◌, [], None, length, IfOk, IfSome, vec_len};
-ghost use Rattle.prta_outside.specs.Shelf.{faults_after, IfTooLong};
+ghost use Rattle.std.specs.Prelude.{◌≡◌, ◌+◌, ◌-◌, ◌^◌, ◌<◌, ◌≤◌, [], None, Some, length, IfOk, IfSome, IsSomeAnd, vec_len, if◌then◌else◌};
+ghost use Rattle.prta_outside.specs.Shelf.{failed, faults_after, IfTooLong};
+ghost use Rattle.prta_outside.specs.Sink.{raised};
 
-use crate::faults::Faults;
+use crate::disk::{Disk, HostDisk};
+use crate::faults::{Faults, Noted};
 use crate::shelf::{Shelf, ShelfFault, is_failed};
 use std::alloc::Global;
-use std::fs;
-use std::io::Read;
 use std::marker::Model;
 use std::rt::Files;
 
@@ -16,31 +16,32 @@ const TURN: usize = 4096;
 
 /// A shelf that reads a file by its path. It tells nothing of what the files hold.
 ///
-/// Any error of opening or reading is a fault.
+/// Any error of opening or reading is a fault. Contracts see the names of the failed reads, and a count of the calls
+/// of the file system that failed, which stays at 2^64 - 1.
 #[derive(Drop)]
 pub struct FolderShelf<'a, R> {
-    rt: &'a R,
+    disk: HostDisk<'a, R>,
     alloc: Global,
-    failed: Faults,
+    noted: Faults,
 }
 
 impl<'a, R> Model for FolderShelf<'a, R> {
-    ghost use Rattle.std.specs.Prelude.{List, ℕ};
+    ghost use Rattle.prta_outside.specs.Disk.{FolderState};
 
-    ghost Value = { List (List ℕ) };
+    ghost Value = { FolderState };
 
-    ghost view = { λ s. s.failed };
+    ghost view = { λ s. record { failed = s.noted; faults = s.disk.faults } };
 }
 
 impl<'a, R: Files> FolderShelf<'a, R> {
     /// Makes a shelf with no faults. This takes no memory.
     pub fn new(rt: &'a R, alloc: Global) -> FolderShelf<'a, R>
-        ensures { result ≡ [] }
+        ensures { result ≡ record { failed = []; faults = 0 } }
     {
         FolderShelf {
-            rt,
+            disk: HostDisk::new(rt),
             alloc,
-            failed: Faults::new(alloc),
+            noted: Faults::new(alloc),
         }
     }
 }
@@ -48,56 +49,67 @@ impl<'a, R: Files> FolderShelf<'a, R> {
 impl<R: Files> Shelf for FolderShelf<'_, R> {
     ghost held = { λ _. None };
 
-    ghost faults = { λ s. s };
+    ghost faults = { λ s. s.failed };
 
     /// Takes the memory for the path in the list of faults, and reads the file only then.
     fn read(&mut self, alloc: Global, name: &str, limit: usize) -> Result<Vec<u8>, ShelfFault>
         requires { limit < 2 ^ 64 - 1 }
         ensures short { IfOk result (λ bytes. vec_len bytes ≤ limit) }
         ensures too_long_taken { IfTooLong result (λ taken. taken ≡ limit + 1) }
-        ensures faults { self.new ≡ faults_after result name.now self.old }
+        ensures faults { self.new.failed ≡ faults_after result name.now self.old.failed }
+        ensures counted { self.new.faults ≡ (if failed result then raised self.old.faults else self.old.faults) }
     {
-        if self.failed.note(self.alloc, name).is_err() {
+        let Ok(path) = self.noted.note(self.alloc, name) else {
             return Err(ShelfFault::NoMemory);
-        }
-        let answer = read_path(self.rt, alloc, name, limit);
+        };
+        let answer = read_path(&mut self.disk, alloc, path, limit);
         if !is_failed(&answer) {
-            self.failed.take_back();
+            self.noted.take_back();
         }
         answer
     }
 }
 
 // Reads the file at this path.
-fn read_path<R: Files>(
-    rt: &R,
+fn read_path<D: Disk>(
+    disk: &mut D,
     alloc: Global,
-    path: &str,
+    path: Noted<'_>,
     limit: usize,
 ) -> Result<Vec<u8>, ShelfFault>
     requires { limit < 2 ^ 64 - 1 }
     ensures short { IfOk result (λ bytes. vec_len bytes ≤ limit) }
+    ensures holds { IfSome (D.held disk.old) (λ files. IfOk result (λ bytes. files path.entry.name.now ≡ Some bytes.items)) }
     ensures too_long_taken { IfTooLong result (λ taken. taken ≡ limit + 1) }
+    ensures too_long_held { IfSome (D.held disk.old) (λ files.
+        IfTooLong result (λ _. IsSomeAnd (files path.entry.name.now) (λ bytes. limit < length bytes))) }
+    ensures counted { D.faults disk.new ≡ (if failed result then raised (D.faults disk.old) else D.faults disk.old) }
 {
-    match fs::open(rt, path) {
-        Ok(mut file) => read_file(&mut file, alloc, limit),
+    match disk.open(path.name()) {
+        Ok(mut file) => read_file(disk, &mut file, alloc, limit),
         Err(_) => Err(ShelfFault::Failed),
     }
 }
 
 // Reads to the end of the file, or up to one byte more than the limit.
-fn read_file<F: Read>(file: &mut F, alloc: Global, limit: usize) -> Result<Vec<u8>, ShelfFault>
+fn read_file<D: Disk>(
+    disk: &mut D,
+    file: &mut D::File,
+    alloc: Global,
+    limit: usize,
+) -> Result<Vec<u8>, ShelfFault>
     requires { limit < 2 ^ 64 - 1 }
     ensures short { IfOk result (λ bytes. vec_len bytes ≤ limit) }
-    ensures whole { IfSome (F.remaining file.old) (λ left. IfOk result (λ bytes. bytes.items ≡ left)) }
+    ensures whole { IfSome (D.left file.old) (λ left. IfOk result (λ bytes. bytes.items ≡ left)) }
     ensures too_long_taken { IfTooLong result (λ taken. taken ≡ limit + 1) }
-    ensures too_long { IfSome (F.remaining file.old) (λ left. IfTooLong result (λ _. limit < length left)) }
+    ensures too_long { IfSome (D.left file.old) (λ left. IfTooLong result (λ _. limit < length left)) }
+    ensures counted { D.faults disk.new ≡ (if failed result then raised (D.faults disk.old) else D.faults disk.old) }
 {
     let mut bytes = Vec::new(alloc);
     let mut turn = [0u8; TURN];
     while bytes.len() <= limit {
         let most = TURN.min(limit + 1 - bytes.len());
-        let Ok(n) = file.read(&mut turn[..most]) else {
+        let Ok(n) = disk.read(file, &mut turn[..most]) else {
             return Err(ShelfFault::Failed);
         };
         if n == 0 {

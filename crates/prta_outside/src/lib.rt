@@ -2,6 +2,7 @@
 #![tactic(auto)]
 
 mod calls;
+mod disk;
 mod faults;
 mod folder_shelf;
 mod memory_shelf;

@@ -83,8 +83,8 @@ impl Shelf for MemoryShelf {
 
     ghost faults = { λ s. s.failed };
 
-    /// Counts the read, takes the memory for the name in the list of faults, and fails where the number of the read
-    /// is refused or the name isn't held.
+    /// Counts the read. It fails where the number of the read is refused or the name isn't held, and takes the memory
+    /// for the name in the list of faults where it doesn't fail too.
     fn read(&mut self, alloc: Global, name: &str, limit: usize) -> Result<Vec<u8>, ShelfFault>
         requires { limit < 2 ^ 64 - 1 }
         ensures answer { Answers result (read_gives self.old name.now limit) }

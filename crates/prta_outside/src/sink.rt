@@ -21,7 +21,8 @@ pub trait Sink {
 
     /// Takes the first bytes of the piece, at least one, and says how many.
     ///
-    /// After a fault the sink may have taken some of them, but not all. No clause says when a put fails.
+    /// After a fault a sink that tells what it took may have taken some of them, but not all; of one that doesn't, as a
+    /// writer whose flush failed after the write, all of them may have gone out. No clause says when a put fails.
     fn put(&mut self, piece: &[u8]) -> Result<usize, SinkFault>
         requires { 0 < length piece.now }
         ensures some { IfOk result (λ n. (0 < n) × (n ≤ length piece.now)) }

@@ -8,22 +8,25 @@ use crate::sink::{Sink, SinkFault};
 use std::io::Write;
 use std::marker::Model;
 
-/// A sink that writes to a writer, and flushes it after each write. It tells nothing of what the writer took.
+/// A sink that writes to a writer, and flushes it after each write. As a sink it tells nothing of what the writer took.
 ///
 /// An error of a write or a flush is a fault, and so is a write that takes nothing. The bytes of a write whose flush
 /// failed may have been written.
+///
+/// Contracts see the bytes that the writer holds, where it tells them, and the count of faults.
 #[derive(Drop)]
-pub struct StdSink<W> {
+pub struct StdSink<W: Write + Drop> {
     to: W,
     faults: u64,
 }
 
-impl<W> Model for StdSink<W> {
-    ghost use Rattle.std.specs.Prelude.{ℕ, ◌<◌, ◌^◌};
+impl<W: Write + Drop> Model for StdSink<W> {
+    ghost use Rattle.std.specs.Prelude.{◌<◌, ◌^◌};
+    ghost use Rattle.prta_outside.specs.StdSink.{WriterState};
 
-    ghost Value = { ℕ };
+    ghost Value = { WriterState };
 
-    ghost view = { λ s. s.faults };
+    ghost view = { λ s. record { holds = W.contents s.to; faults = s.faults } };
 
     ghost invariant = { λ s. s.faults < 2 ^ 64 };
 }
@@ -31,7 +34,7 @@ impl<W> Model for StdSink<W> {
 impl<W: Write + Drop> StdSink<W> {
     /// Makes a sink with no faults. This takes no memory.
     pub fn new(to: W) -> StdSink<W>
-        ensures { result ≡ 0 }
+        ensures { result ≡ record { holds = W.contents to; faults = 0 } }
     {
         StdSink { to, faults: 0 }
     }
@@ -40,16 +43,17 @@ impl<W: Write + Drop> StdSink<W> {
 impl<W: Write + Drop> Sink for StdSink<W> {
     ghost taken = { λ _. None };
 
-    ghost faults = { λ s. s };
+    ghost faults = { λ s. s.faults };
 
-    /// Writes once, and flushes.
+    /// Writes once, and flushes. It answers how many bytes the writer took.
     fn put(&mut self, piece: &[u8]) -> Result<usize, SinkFault>
         requires { 0 < length piece.now }
         ensures some { IfOk result (λ n. (0 < n) × (n ≤ length piece.now)) }
-        ensures counted { self.new ≡ (if is_ok result then self.old else raised self.old) }
-        ensures fault { OnErr result (HasRisen self.old self.new) }
-        ensures never_falls { self.old ≤ self.new }
-        ensures bounded { self.new < 2 ^ 64 }
+        ensures written { IfOk result (λ n. Appends self.old.holds self.new.holds (take n piece.now)) }
+        ensures counted { self.new.faults ≡ (if is_ok result then self.old.faults else raised self.old.faults) }
+        ensures fault { OnErr result (HasRisen self.old.faults self.new.faults) }
+        ensures never_falls { self.old.faults ≤ self.new.faults }
+        ensures bounded { self.new.faults < 2 ^ 64 }
     {
         match write_some(&mut self.to, piece) {
             Ok(n) => Ok(n),

@@ -21,8 +21,8 @@ job_line name number release deadline numbers =
     ++ codes " lower " ++ decimal numbers.lower ++ codes " " ++ decimal_below numbers.lower
     ++ codes " upper " ++ decimal numbers.upper ++ codes " " ++ decimal_above numbers.upper ++ codes "\n"
 
-abbrev pub line_of : List Task → Job → Numbers → List ℕ
-line_of tasks job numbers = job_line (task_at tasks job.task).name job.number job.release (deadline_of tasks job) numbers
+abbrev pub line_of_job : List Task → Job → Numbers → List ℕ
+line_of_job tasks job numbers = job_line (task_at tasks job.task).name job.number job.release (deadline_of tasks job) numbers
 
 -- the analysed jobs by task in sheet order, and then by number
 abbrev pub jobs_by_task : Sheet → List Job
@@ -32,7 +32,7 @@ jobs_by_task sheet = flat_map (λ i. filter (λ job. nat_eq job.task i) (analyse
 abbrev pub analyse_text : Sheet → (Job → Numbers) → List ℕ
 analyse_text sheet numbers =
     head_text (hyperperiod sheet.tasks) (length (analysed_jobs sheet))
-    ++ flat_map (λ job. line_of sheet.tasks job (numbers job)) (jobs_by_task sheet)
+    ++ flat_map (λ job. line_of_job sheet.tasks job (numbers job)) (jobs_by_task sheet)
     ++ codes "end\n"
 
 -- the line of a stretch of ticks in which a job runs, or none

@@ -5,7 +5,7 @@ use Rattle.prta_sheet.specs.Sheet.{Task, Sheet}
 use Rattle.prta_report.specs.Trace.{simulate_text}
 
 abbrev pub named : List ℕ → ℕ → ℕ → ℕ → Table → Task
-named name offset period deadline table = record { name = name; offset = offset; period = period; deadline = deadline; table = table; allow = (0, 1) }
+named name offset period deadline table = record { name = name; offset = offset; period = period; deadline = deadline; cycle = table ∷ []; allow = (0, 1) }
 
 abbrev pub sheet_of : ℕ → List Task → Sheet
 sheet_of hyperperiods tasks = record { settings = record { cap = 2048; hyperperiods = hyperperiods; turns = 16; support = None }; tasks = tasks }

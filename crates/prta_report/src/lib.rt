@@ -8,7 +8,7 @@ mod run;
 #[cfg(test)]
 mod tests;
 
-pub use model::{runs_are_longest, trace_tells_misses, worked_traces};
+pub use model::{runs_are_longest, stated_limit, trace_tells_misses, worked_traces};
 pub use number::push_number;
 pub use page::{LINE, Page};
 pub use run::run_line;

@@ -1,9 +1,16 @@
 //! Laws of the definitions of the texts, and what they give on worked values.
 
+ghost use Rattle.std.specs.Prelude.{◌≡◌};
 ghost use Rattle.prta_report.specs.TraceLaws.{RunsAreLongest, TraceTellsMisses};
 ghost use Rattle.prta_report.specs.WorkedTraces.{WorkedTraces};
 
+use crate::page::LINE;
 use prta_ticksim::finishes_tell_misses;
+
+/// The limit on the bytes of a line, as a number.
+pub fn stated_limit()
+    ensures { LINE ≡ 512 }
+{}
 
 /// The texts of `simulate` for small sheets: preemption, late jobs, and jobs that are left at the horizon.
 pub fn worked_traces()

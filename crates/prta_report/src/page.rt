@@ -6,7 +6,7 @@ use prta_mass::NoMemory;
 use std::alloc::Global;
 use std::marker::Model;
 
-/// No line of a text is longer than this many bytes.
+/// A call that writes a line asks for this many bytes of room, and takes no more.
 pub const LINE: usize = 512;
 
 /// Bytes that are written one piece after the other into room that was taken when the page was made.

@@ -27,8 +27,9 @@ fn a_page_is_filled_and_emptied(rt: HostRuntime) -> Result<(), Fail> {
 fn pair(alloc: Global) -> Result<Sheet, Fail> {
     let mut tasks = Vec::new(alloc);
     for name in ["ctrl", "log-2"] {
-        let table = TimeTable::new(alloc, &[(1, 1), (2, 1)])?;
-        tasks.push(Task::new(alloc, name, 0, 8, 7, table, (0, 1))?)?;
+        let mut cycle = Vec::new(alloc);
+        cycle.push(TimeTable::new(alloc, &[(1, 1), (2, 1)])?)?;
+        tasks.push(Task::new(alloc, name, 0, 8, 7, cycle, (0, 1))?)?;
     }
     let settings = Settings {
         cap: 2048,
@@ -82,7 +83,7 @@ const RUNS: [RunCase; 5] = [
 ];
 
 // The page with the line of the case.
-fn line_of(alloc: Global, sheet: &Sheet, case: &RunCase) -> Result<Page, Fail> {
+fn page_of(alloc: Global, sheet: &Sheet, case: &RunCase) -> Result<Page, Fail> {
     let mut page = Page::with_room(alloc, LINE)?;
     match case.who {
         Some((task, number)) if task < sheet.tasks().len() => {
@@ -102,7 +103,7 @@ fn line_of(alloc: Global, sheet: &Sheet, case: &RunCase) -> Result<Page, Fail> {
 fn lines_of_runs(rt: HostRuntime) -> Result<(), Fail> {
     let sheet = pair(rt.alloc())?;
     for case in &RUNS {
-        let page = line_of(rt.alloc(), &sheet, case)?;
+        let page = page_of(rt.alloc(), &sheet, case)?;
         assert_eq!(rt; page.bytes(), case.line);
     }
     Ok(())

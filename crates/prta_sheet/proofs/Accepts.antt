@@ -1,11 +1,13 @@
 -- Parts with no fault are accepted.
 use Rattle.std.proofs.Common.{◌≡◌, ℕ, ◌+◌, ◌<◌, ◌≤◌, Bool, true, false, not, nat_le, nat_lt, Option, Some, None, List, length, get_or, take, position, All, bytes_eq, refl, ap, sym, ◌∙◌, subst, arith}
+use Rattle.std.specs.List.{list_any}
 use Rattle.std.proofs.lemmas.Bool.{or_parts, lt-ltb, le-ltb, ltb-false}
 use Rattle.std.proofs.lemmas.Bool.Decides.{nat_tests}
 use Rattle.std.proofs.lemmas.List.{get_or_default, get_or-take, length-take-le}
+use Rattle.std.proofs.lemmas.List.Elements.{All-weaker, All-from_recursion, recursion_from_All}
+use Rattle.std.proofs.lemmas.List.Folds.{list_any_none}
 use Rattle.std.proofs.lemmas.Slice.Eq.{bytes_eq-Decides}
-use Rattle.prta_mass.specs.Table.{or_else, when, shape_fault, fault_of, IsTable, FaultlessPairs, total}
-use Rattle.prta_mass.specs.declared.table.TheConstants.{TOTAL_LIMIT}
+use Rattle.prta_mass.specs.Table.{Table, or_else, when, shape_fault, fault_of, IsTable, FaultlessPairs}
 use Rattle.prta_mass.specs.declared.table.TableFault.TheVariants as table_fault_of
 use Rattle.prta_sheet.specs.declared.limits.TheConstants.{TASK_LIMIT, PERIOD_LIMIT, JOB_LIMIT, WORK_LIMIT}
 use Rattle.prta_sheet.specs.declared.fault.SheetFault.{SheetFault}
@@ -14,8 +16,10 @@ use Rattle.prta_sheet.specs.Sheet.{Task, Sheet, task_at, hyperperiod}
 use Rattle.prta_sheet.specs.Counts.{all_jobs}
 use Rattle.prta_sheet.specs.Work.{work}
 use Rattle.prta_sheet.specs.Accepted.{is_good_name, HaveOwnNames, IsTask, IsAccepted}
-use Rattle.prta_sheet.specs.SheetConditions.{part_ranges, task_count, has_name, is_bad_at, first_bad_name, name_fault_at, name_fault, first_late_offset, offset_fault, table_fault_at, table_fault, total_fault, deadline_fault, part_fault}
+use Rattle.prta_sheet.specs.DocumentConditions.{first_of}
+use Rattle.prta_sheet.specs.SheetConditions.{part_ranges, task_count, has_name, is_bad_at, first_bad_name, name_fault_at, name_fault, first_late_offset, offset_fault, table_fault_at, table_fault, is_heavy, total_fault, deadline_fault, part_fault}
 use Rattle.prta_sheet.proofs.FirstOf.{first_some, past_none, first_none, next_none, both_none, when_none, when_true, when_false, map_none, none_mapped, none_of_range, none_in_range}
+use Rattle.prta_sheet.proofs.AllPass.{first_of-each, first_of-none}
 use Rattle.prta_sheet.proofs.Ranges.{All_from_places, fails_at, position_fails, no_position, within, IsInRanges, greatest_within, settings_within, tasks_within}
 
 -- the faults of a list of tasks that need no more than the list
@@ -26,6 +30,13 @@ pub head_parts : (tasks : List Task) → head_of tasks ≡ None → (task_count 
 head_parts tasks h =
     let past_count = next_none (task_count tasks) (or_else (name_fault tasks) (offset_fault tasks)) h in
     (first_none (task_count tasks) (or_else (name_fault tasks) (offset_fault tasks)) h, first_none (name_fault tasks) (offset_fault tasks) past_count, next_none (name_fault tasks) (offset_fault tasks) past_count)
+
+-- tables that were made
+abbrev IsMade : Table → Type 0
+IsMade table = fault_of table ≡ None
+
+abbrev pub TablesAreMade : Task → Type 0
+TablesAreMade task = All IsMade task.cycle
 
 -- ---- the count, the names and the offsets
 
@@ -62,31 +73,33 @@ module _ (tasks : List Task) where
 
   -- ---- tables
 
-  abbrev TableIsMade : Task → Type 0
-  TableIsMade task = fault_of task.table ≡ None
-
   -- tables that were made have no fault
-  pub no_table_fault : All TableIsMade tasks → table_fault tasks ≡ None
+  pub no_table_fault : All TablesAreMade tasks → table_fault tasks ≡ None
   no_table_fault h = none_of_range (table_fault_at tasks) 0 (length tasks) (λ k low high.
-      none_mapped (fault.BadTable k) (shape_fault (task_at tasks k).table)
-      (first_none (shape_fault (task_at tasks k).table) (when (nat_lt TOTAL_LIMIT (total (task_at tasks k).table)) table_fault_of.TotalTooLarge) (h k _ (omega arith))))
+      let cycle : List Table = (task_at tasks k).cycle in
+      none_mapped (fault.BadTable k) (first_of shape_fault cycle)
+      (first_of-none shape_fault cycle (recursion_from_All (λ table. shape_fault table ≡ None) cycle
+      (All-weaker IsMade (λ table. shape_fault table ≡ None) (λ table made. first_none (shape_fault table) _ made) cycle (h k _ (omega arith))))))
 
-  pub no_total_fault : All TableIsMade tasks → total_fault tasks ≡ None
-  no_total_fault h = none_mapped fault.TotalTooLarge (position (λ (task : Task). nat_lt TOTAL_LIMIT (total task.table)) tasks)
-      (no_position (λ (task : Task). nat_lt TOTAL_LIMIT (total task.table)) tasks (λ k d low.
-      when_none _ table_fault_of.TotalTooLarge (next_none (shape_fault (get_or tasks k d).table) _ (h k d low))))
+  pub no_total_fault : All TablesAreMade tasks → total_fault tasks ≡ None
+  no_total_fault h = none_mapped fault.TotalTooLarge (position (λ (task : Task). list_any is_heavy task.cycle) tasks)
+      (no_position (λ (task : Task). list_any is_heavy task.cycle) tasks (λ k d low.
+      list_any_none is_heavy (get_or tasks k d).cycle
+      (All-weaker IsMade (λ table. is_heavy table ≡ false) (λ table made. when_none _ table_fault_of.TotalTooLarge (next_none (shape_fault table) _ made)) (get_or tasks k d).cycle (h k d low))))
 
-  pub made_tables : table_fault tasks ≡ None → total_fault tasks ≡ None → All TableIsMade tasks
-  made_tables shapes totals =
-      let heavy = position_fails (λ (task : Task). nat_lt TOTAL_LIMIT (total task.table)) tasks (map_none fault.TotalTooLarge _ totals) in
-      All_from_places TableIsMade tasks _ (λ k low.
-      both_none (shape_fault (task_at tasks k).table) _
-      (map_none (fault.BadTable k) _ (none_in_range (table_fault_at tasks) 0 (length tasks) k shapes (omega arith) (omega arith)))
-      (ap (λ b. when b table_fault_of.TotalTooLarge) (heavy k _ low)))
+  pub made_tables : table_fault tasks ≡ None → total_fault tasks ≡ None → All TablesAreMade tasks
+  made_tables shapes totals = All_from_places TablesAreMade tasks _ (λ k low.
+      let cycle : List Table = (task_at tasks k).cycle in
+      let shaped : All (λ table. shape_fault table ≡ None) cycle =
+      All-from_recursion (λ table. shape_fault table ≡ None) cycle
+      (first_of-each shape_fault cycle (map_none (fault.BadTable k) _ (none_in_range (table_fault_at tasks) 0 (length tasks) k shapes (omega arith) (omega arith)))) in
+      let light : All (λ table. is_heavy table ≡ false) cycle =
+      fails_at is_heavy cycle (position_fails (λ (task : Task). list_any is_heavy task.cycle) tasks (map_none fault.TotalTooLarge _ totals) k _ low) in
+      λ j d l. both_none (shape_fault (get_or cycle j d)) _ (shaped j d l) (ap (λ b. when b table_fault_of.TotalTooLarge) (light j d l)))
 
 -- ---- the tasks of a sheet
 
-module _ (makes : FaultlessPairs) (sheet : Sheet) (ranges : part_ranges sheet ≡ None) (head : head_of sheet.tasks ≡ None) (tables : All (λ task. fault_of task.table ≡ None) sheet.tasks) (deadlines : deadline_fault sheet.settings.cap sheet.tasks ≡ None) where
+module _ (makes : FaultlessPairs) (sheet : Sheet) (ranges : part_ranges sheet ≡ None) (head : head_of sheet.tasks ≡ None) (tables : All TablesAreMade sheet.tasks) (deadlines : deadline_fault sheet.settings.cap sheet.tasks ≡ None) where
   pub are_tasks : All (IsTask sheet.settings.cap) sheet.tasks
   are_tasks = All_from_places (IsTask sheet.settings.cap) sheet.tasks _ each
     where
@@ -95,7 +108,7 @@ module _ (makes : FaultlessPairs) (sheet : Sheet) (ranges : part_ranges sheet �
           let task : Task = task_at sheet.tasks k in
           let parts = head_parts sheet.tasks head in
           let in_ranges : IsInRanges task = tasks_within sheet ranges k _ low in
-          let table : IsTable task.table = (makes task.table).0 (tables k _ low) in
+          let are : All IsTable task.cycle = λ j d l. (makes (get_or task.cycle j d)).0 (tables k _ low j d l) in
           let early : task.offset < task.period = early_offsets sheet.tasks parts.2 k _ low in
           let long : nat_lt sheet.settings.cap (task.deadline + 2) ≡ false =
           position_fails (λ (task : Task). nat_lt sheet.settings.cap (task.deadline + 2)) sheet.tasks (map_none fault.DeadlineNotBelowCap _ deadlines) k _ low in
@@ -106,8 +119,10 @@ module _ (makes : FaultlessPairs) (sheet : Sheet) (ranges : part_ranges sheet �
             period_high = in_ranges.period_high;
             deadline_low = in_ranges.deadline_low;
             deadline_high = grind (arith, nat_tests);
-            table = table;
-            times = greatest_within task.table table.some in_ranges.times;
+            cycle_low = in_ranges.cycle_low;
+            cycle_high = in_ranges.cycle_high;
+            tables = are;
+            times = λ j d l. greatest_within (get_or task.cycle j d) (are j d l).some (in_ranges.times j d l);
             allow = in_ranges.allow;
           }
 
@@ -152,7 +167,7 @@ module _ (sheet : Sheet) where
   pub by_parts : part_fault sheet ≡ or_else (part_ranges sheet) (or_else (head_of sheet.tasks) rest_of)
   by_parts = regroup (part_ranges sheet) (task_count sheet.tasks) (name_fault sheet.tasks) (offset_fault sheet.tasks) rest_of
 
-  module _ (ranges : part_ranges sheet ≡ None) (head : head_of sheet.tasks ≡ None) (made : All (λ task. fault_of task.table ≡ None) sheet.tasks) where
+  module _ (ranges : part_ranges sheet ≡ None) (head : head_of sheet.tasks ≡ None) (made : All TablesAreMade sheet.tasks) where
     -- past the tables the fault is one of the deadlines or of the load
     pub past_tables : part_fault sheet ≡ or_else (deadline_fault sheet.settings.cap sheet.tasks) load_of
     past_tables =

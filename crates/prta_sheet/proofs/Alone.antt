@@ -8,8 +8,8 @@ use Rattle.std.proofs.lemmas.Bool.{le-leb, lt-leb}
 use Rattle.std.proofs.lemmas.Bool.Decides.{nat_tests}
 use Rattle.prta_mass.specs.Unit.{unit}
 use Rattle.prta_mass.specs.Table.{total}
-use Rattle.prta_sheet.specs.Sheet.{Task}
-use Rattle.prta_sheet.specs.Job.{Job, table_of, is_release, released_at, jobs_before}
+use Rattle.prta_sheet.specs.Sheet.{Task, table_in, cycle_ticks}
+use Rattle.prta_sheet.specs.Job.{Job, table_of, deadline_of, is_release, released_at, jobs_before}
 use Rattle.prta_sheet.specs.Assignment.{Timed, total_of}
 use Rattle.prta_sheet.specs.Machine.{place, goes_before, misses}
 use Rattle.prta_sheet.specs.Chance.{miss_weight, chance_total}
@@ -19,7 +19,7 @@ use Rattle.prta_sheet.proofs.Each.{Each-append, Each-weaker, Each-from_map}
 use Rattle.prta_sheet.proofs.Sums.{sum_by-same, sum_by-times, sum_by-filter}
 use Rattle.prta_sheet.proofs.Weighing.{listed_passing, weigh-same_on, weigh_constant}
 use Rattle.prta_sheet.proofs.First.{served_first}
-use Rattle.prta_sheet.proofs.OneTask.{hyperperiod_of_one}
+use Rattle.prta_sheet.proofs.Multiples.{hyperperiod_of_one}
 
 module _ (task : Task) where
   abbrev tasks : List Task
@@ -30,6 +30,9 @@ module _ (task : Task) where
 
   abbrev job : Job
   job = first_job_of task
+
+  at_offset : task.offset ≡ job.release
+  at_offset = omega arith
 
   -- ---- the jobs before a time
 
@@ -44,7 +47,7 @@ module _ (task : Task) where
   first_released =
       let yes : nat_le task.offset task.offset ≡ true = le-leb task.offset task.offset (omega arith) in
       let gone : task.offset - task.offset ≡ 0 = omega arith in
-      rw (yes, gone, zero-mod task.period, zero-div task.period) refl
+      rw (yes, gone, zero-mod task.period, zero-div task.period) (ap (λ r. record { task = 0; number = 0; release = r } ∷ []) at_offset)
 
   -- a later job of the task
   abbrev IsLater : Job → Type 0
@@ -91,19 +94,19 @@ module _ (task : Task) where
   -- ---- the first job among later ones
 
   goes_before_later : (j : Job) → IsLater j → goes_before order job j ≡ true
-  goes_before_later j h = by_release (place order 0) (place order j.task) task.offset j.release (ap (place order) h.0) h.1
+  goes_before_later j h = by_release (place order 0) (place order j.task) job.release j.release (ap (place order) h.0) (omega (arith, h.1, at_offset))
     where
       by_release : (p q r s : ℕ) → q ≡ p → r < s → (nat_lt p q || (nat_eq p q && nat_lt r s)) ≡ true
       by_release p q r s e l = grind (arith, nat_tests)
 
   -- it misses where its own time is above its deadline
   misses_by_time : (more : List Job) → Each IsLater more → (c : ℕ) (a : List Timed) → jobs_of a ≡ more →
-      misses order job (task.offset + task.deadline) (record { job = job; time = c } ∷ a) ≡ nat_lt task.deadline c
+      misses order job (deadline_of tasks job) (record { job = job; time = c } ∷ a) ≡ nat_lt task.deadline c
   misses_by_time more later c a e =
       let behind : Each (λ e. goes_before order job e.job ≡ true) a =
       Each-from_map (λ j. goes_before order job j ≡ true) (λ e. e.job) a
       (Each-weaker IsLater _ goes_before_later (jobs_of a) (subst (λ js. Each IsLater js) (sym e) later)) in
-      ap (nat_lt 0) (served_first order [] a (record { job = job; time = c }) behind (task.offset + task.deadline)) ∙ above task.offset task.deadline
+      ap (nat_lt 0) (served_first order [] a (record { job = job; time = c }) behind (deadline_of tasks job)) ∙ above job.release task.deadline
     where
       above : (o d : ℕ) → nat_lt 0 (c - ((o + d) - o)) ≡ nat_lt d c
       above o d = grind (arith, nat_tests)
@@ -111,28 +114,28 @@ module _ (task : Task) where
   -- ---- the weights
 
   module _ (some : 0 < task.deadline) where
-    jobs : FirstThenLater (task.offset + task.deadline)
-    jobs = let e : (task.deadline - 1) + suc task.offset ≡ task.offset + task.deadline = omega arith in subst FirstThenLater e (first_then_later (task.deadline - 1))
+    jobs : FirstThenLater (deadline_of tasks job)
+    jobs = let e : (task.deadline - 1) + suc task.offset ≡ deadline_of tasks job = omega arith in subst FirstThenLater e (first_then_later (task.deadline - 1))
 
     abbrev rest : ℕ
     rest = total_of (table_of tasks) jobs.more
 
-    missed : miss_weight tasks order job ≡ weight_above task.deadline task.table * rest
+    missed : miss_weight tasks order job ≡ weight_above task.deadline (table_in task 0) * rest
     missed =
-        let f : List Timed → ℕ = λ a. one_if (misses order job (task.offset + task.deadline) a) in
+        let f : List Timed → ℕ = λ a. one_if (misses order job (deadline_of tasks job) a) in
         let one : ℕ × ℕ → ℕ = λ pair. pair.1 * one_if (nat_lt task.deadline pair.0) in
-        listed_passing (table_of tasks) (jobs_before tasks (task.offset + task.deadline)) (misses order job (task.offset + task.deadline))
+        listed_passing (table_of tasks) (jobs_before tasks (deadline_of tasks job)) (misses order job (deadline_of tasks job))
         ∙ ap (λ js. weigh (table_of tasks) js f) jobs.split
         ∙ sum_by-same _ (λ pair. rest * one pair) (λ pair.
         ap (λ s. pair.1 * s)
         (weigh-same_on (table_of tasks) jobs.more _ (λ a. one_if (nat_lt task.deadline pair.0)) (λ a e. ap one_if (misses_by_time jobs.more jobs.later pair.0 a e))
         ∙ weigh_constant (table_of tasks) (one_if (nat_lt task.deadline pair.0)) jobs.more)
-        ∙ omega arith) task.table
-        ∙ sum_by-times rest one task.table
-        ∙ ap (λ s. rest * s) (sym (sum_by-filter (λ pair. nat_lt task.deadline pair.0) (λ pair. pair.1) task.table))
+        ∙ omega arith) (table_in task 0)
+        ∙ sum_by-times rest one (table_in task 0)
+        ∙ ap (λ s. rest * s) (sym (sum_by-filter (λ pair. nat_lt task.deadline pair.0) (λ pair. pair.1) (table_in task 0)))
         ∙ omega arith
 
-    all : chance_total tasks job ≡ total task.table * rest
+    all : chance_total tasks job ≡ total (table_in task 0) * rest
     all = ap (total_of (table_of tasks)) jobs.split
 
 pub first_job_alone : FirstJobAlone
@@ -148,8 +151,8 @@ quotient_above u w t rest h = omega (arith, mul-le-mul_left rest (div_ceil_times
 
 pub quotients_are_around : QuotientsAreAround
 quotients_are_around task some weighs =
-    let w : ℕ = weight_above task.deadline task.table in
-    let t : ℕ = total task.table in
+    let w : ℕ = weight_above task.deadline (table_in task 0) in
+    let t : ℕ = total (table_in task 0) in
     let shares = first_job_alone task some in
     record {
       below = rw (shares.1, shares.2) (quotient_below unit w t shares.0);
@@ -157,6 +160,7 @@ quotients_are_around task some weighs =
     }
 
 pub one_job : OneJob
-one_job task early =
+one_job task early one =
+    let once : cycle_ticks task ≡ task.period = ap (λ n. task.period * n) one ∙ omega arith in
     let whole : (task.period - suc task.offset) + suc task.offset ≡ task.period = omega arith in
-    ap (jobs_before (task ∷ [])) (hyperperiod_of_one task (omega arith) ∙ sym whole) ∙ only_first task (task.period - suc task.offset) (omega arith)
+    ap (jobs_before (task ∷ [])) (hyperperiod_of_one task (omega arith) ∙ once ∙ sym whole) ∙ only_first task (task.period - suc task.offset) (omega arith)

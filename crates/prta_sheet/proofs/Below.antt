@@ -1,5 +1,5 @@
 -- Sums over the numbers below a limit.
-use Rattle.std.proofs.Common.{◌≡◌, ℕ, zero, suc, ◌+◌, ◌*◌, ◌<◌, refl, ap, ap₂, arith, inl, inr}
+use Rattle.std.proofs.Common.{◌≡◌, ℕ, zero, suc, ◌+◌, ◌*◌, ◌<◌, ◌≤◌, le_refl, refl, ap, ap₂, arith, inl, inr}
 use Rattle.std.proofs.lemmas.Bool.{cases_lt}
 
 abbrev pub sum_below : (ℕ → ℕ) → ℕ → ℕ
@@ -21,6 +21,14 @@ sum_below-first f (suc n) = omega (arith, sum_below-first f n)
 pub sum_below-constant : (c n : ℕ) → sum_below (λ k. c) n ≡ n * c
 sum_below-constant c zero = omega arith
 sum_below-constant c (suc n) = omega (arith, sum_below-constant c n)
+
+pub sum_below-rises : (f : ℕ → ℕ) (m n : ℕ) → m ≤ n → sum_below f m ≤ sum_below f n
+sum_below-rises f m zero h = let none : m ≡ 0 = omega arith in rw none (le_refl 0)
+sum_below-rises f m (suc n) h =
+    elim (cases_lt n m) [
+      | inl all ↦ let same : m ≡ suc n = omega arith in rw same (le_refl (sum_below f (suc n)))
+      | inr fewer ↦ omega (arith, sum_below-rises f m n fewer)
+    ]
 
 pub sum_below-none : (f : ℕ → ℕ) (n : ℕ) → ((k : ℕ) → k < n → f k ≡ 0) → sum_below f n ≡ 0
 sum_below-none f zero e = refl

@@ -12,7 +12,8 @@ use Rattle.prta_mass.specs.declared.support.Support.{Support}
 use Rattle.prta_sheet.specs.declared.settings.Settings.{Settings}
 use Rattle.prta_sheet.specs.Sheet.{Task, Sheet}
 use Rattle.prta_sheet.specs.Accepted.{is_good_name, is_name_byte}
-use Rattle.prta_sheet.specs.Canonical.{number_line, support_line, support_text, settings_text, name_line, pair_text, next_pair_text, pairs_text, times_line, allow_line, task_text, canonical_text, IsTomlNumber, IsTomlPair, IsTomlSupport, AreStatable, IsStatableTask, IsStatable}
+use Rattle.prta_sheet.specs.Canonical.{number_line, support_line, support_text, settings_text, name_line, pair_text, next_pair_text, pairs_text, times_line, table_text, next_table_text, cycle_line, tables_line, allow_line, task_text, canonical_format, canonical_text, IsTomlNumber, IsTomlPair, IsTomlSupport, AreStatable, IsStatableTask, IsStatable}
+use Rattle.prta_sheet.proofs.CanonicalLines.{format_small}
 
 -- the fact as a record, whose text antt finds
 record HasAscii (text : List ℕ) : Type 0 where
@@ -65,10 +66,10 @@ in_support : (support : Option Support) → IsTomlSupport support → HasAscii (
 in_support None small = nothing
 in_support (Some support) small = in_support_line support small
 
-in_settings : (settings : Settings) → AreStatable settings → HasAscii (settings_text settings)
+in_settings : (format : ℕ) (settings : Settings) → IsTomlNumber format → AreStatable settings → HasAscii (settings_text format settings)
 unfolding settings_text
-in_settings settings small =
-    in_number_line (codes "format") 1 refl (omega arith)
+in_settings format settings known small =
+    in_number_line (codes "format") format refl known
     >> in_number_line (codes "cap") settings.cap refl small.cap
     >> in_number_line (codes "hyperperiods") settings.hyperperiods refl small.hyperperiods
     >> in_number_line (codes "turns") settings.turns refl small.turns
@@ -94,6 +95,28 @@ in_times : (times : Table) → All IsTomlPair times → HasAscii (times_line tim
 unfolding times_line
 in_times times small = literal (codes "times = [") refl >> in_pairs times small >> literal (codes "]\n") refl
 
+in_table : (times : Table) → All IsTomlPair times → HasAscii (table_text times)
+unfolding table_text
+in_table times small = literal (codes "[") refl >> in_pairs times small >> literal (codes "]") refl
+
+abbrev AreTomlPairs : Table → Type 0
+AreTomlPairs times = All IsTomlPair times
+
+in_next_tables : (tables : List Table) → All AreTomlPairs tables → HasAscii (flat_map next_table_text tables)
+in_next_tables [] small = nothing
+in_next_tables (times ∷ tables) small =
+    literal (codes ", ") refl >> in_table times (All-head AreTomlPairs times tables small) >> in_next_tables tables (All-tail AreTomlPairs times tables small)
+
+in_cycle : (first : Table) (rest : List Table) → All AreTomlPairs (first ∷ rest) → HasAscii (cycle_line first rest)
+unfolding cycle_line
+in_cycle first rest small =
+    literal (codes "cycle = [") refl >> in_table first (All-head AreTomlPairs first rest small) >> in_next_tables rest (All-tail AreTomlPairs first rest small) >> literal (codes "]\n") refl
+
+in_tables : (cycle : List Table) → All AreTomlPairs cycle → HasAscii (tables_line cycle)
+in_tables [] small = nothing
+in_tables (times ∷ []) small = in_times times (All-head AreTomlPairs times [] small)
+in_tables (first ∷ second ∷ rest) small = in_cycle first (second ∷ rest) small
+
 in_allow : (allow : ℕ × ℕ) → IsTomlPair allow → HasAscii (allow_line allow)
 unfolding allow_line
 in_allow allow small = literal (codes "allow = ") refl >> in_pair allow small >> literal (codes "\n") refl
@@ -106,7 +129,7 @@ in_task task small =
     >> in_number_line (codes "offset") task.offset refl small.offset
     >> in_number_line (codes "period") task.period refl small.period
     >> in_number_line (codes "deadline") task.deadline refl small.deadline
-    >> in_times task.table small.times
+    >> in_tables task.cycle small.tables
     >> in_allow task.allow small.allow
 
 in_tasks : (tasks : List Task) → All IsStatableTask tasks → HasAscii (flat_map task_text tasks)
@@ -116,5 +139,5 @@ in_tasks (task ∷ tasks) small =
 
 pub ascii : (sheet : Sheet) → IsStatable sheet → IsAscii (canonical_text sheet)
 ascii sheet small =
-    let whole : HasAscii (canonical_text sheet) = in_settings sheet.settings small.settings >> in_tasks sheet.tasks small.tasks in
+    let whole : HasAscii (canonical_text sheet) = in_settings (canonical_format sheet.tasks) sheet.settings (format_small sheet.tasks) small.settings >> in_tasks sheet.tasks small.tasks in
     whole.bytes

@@ -10,7 +10,8 @@ use Rattle.prta_sheet.specs.declared.limits.TheConstants.{NAME_LIMIT, SHEET_LIMI
 use Rattle.prta_sheet.specs.declared.settings.Settings.{Settings}
 use Rattle.prta_sheet.specs.Sheet.{Task, Sheet}
 use Rattle.prta_sheet.specs.Accepted.{is_good_name, is_name_byte, IsTask, IsAccepted}
-use Rattle.prta_sheet.specs.Canonical.{number_line, support_line, support_text, settings_text, name_line, pair_text, next_pair_text, pairs_text, times_line, allow_line, task_text, canonical_text, IsTomlNumber, IsTomlPair, IsTomlSupport, AreStatable, IsStatableTask}
+use Rattle.prta_sheet.specs.Canonical.{number_line, support_line, support_text, settings_text, name_line, pair_text, next_pair_text, pairs_text, times_line, table_text, next_table_text, cycle_line, tables_line, allow_line, task_text, canonical_format, canonical_text, IsTomlNumber, IsTomlPair, IsTomlSupport, AreStatable, IsStatableTask}
+use Rattle.prta_sheet.proofs.CanonicalLines.{format_small}
 use Rattle.prta_sheet.proofs.Statable.{accepted_are_statable}
 
 -- a text of at most so many bytes
@@ -55,11 +56,11 @@ in_support (Some support) small =
     let whole = first >> literal (codes ", step = ") >> number support.step small.second >> literal (codes " }\n") in
     wider _ whole (omega arith)
 
-in_settings : (settings : Settings) → AreStatable settings → IsWithin 300 (settings_text settings)
+in_settings : (format : ℕ) (settings : Settings) → IsTomlNumber format → AreStatable settings → IsWithin 300 (settings_text format settings)
 unfolding settings_text
-in_settings settings small =
+in_settings format settings known small =
     let whole =
-    in_number_line (codes "format") 1 (omega arith)
+    in_number_line (codes "format") format known
     >> in_number_line (codes "cap") settings.cap small.cap
     >> in_number_line (codes "hyperperiods") settings.hyperperiods small.hyperperiods
     >> in_number_line (codes "turns") settings.turns small.turns
@@ -92,23 +93,46 @@ in_times : (times : Table) → All IsTomlPair times → IsWithin (44 * length ti
 unfolding times_line
 in_times times small = wider _ (literal (codes "times = [") >> in_pairs times small >> literal (codes "]\n")) (omega arith)
 
+abbrev AreTomlPairs : Table → Type 0
+AreTomlPairs times = All IsTomlPair times
+
+in_table : (times : Table) → length times ≤ 32 → AreTomlPairs times → IsWithin 1410 (table_text times)
+unfolding table_text
+in_table times few small = wider _ (literal (codes "[") >> in_pairs times small >> literal (codes "]")) (omega arith)
+
+in_cycle : (first : Table) (rest : List Table) → length (first ∷ rest) ≤ 16 → All (λ times. length times ≤ 32) (first ∷ rest) → All AreTomlPairs (first ∷ rest) → IsWithin 23000 (cycle_line first rest)
+unfolding cycle_line
+in_cycle first rest many few small =
+    let short = All-tail (λ (times : Table). length times ≤ 32) first rest few in
+    let later = All-tail AreTomlPairs first rest small in
+    let start = in_table first (All-head (λ (times : Table). length times ≤ 32) first rest few) (All-head AreTomlPairs first rest small) in
+    let tables = for_each next_table_text 1412 rest (λ k d low. literal (codes ", ") >> in_table _ (short k d low) (later k d low)) in
+    wider _ (literal (codes "cycle = [") >> start >> tables >> literal (codes "]\n")) (omega arith)
+
+in_tables : (cycle : List Table) → length cycle ≤ 16 → All (λ times. length times ≤ 32) cycle → All AreTomlPairs cycle → IsWithin 23000 (tables_line cycle)
+in_tables [] many few small = wider _ nothing (omega arith)
+in_tables (times ∷ []) many few small =
+    let short = All-head (λ (times : Table). length times ≤ 32) times [] few in
+    wider _ (in_times times (All-head AreTomlPairs times [] small)) (omega arith)
+in_tables (first ∷ second ∷ rest) many few small = in_cycle first (second ∷ rest) many few small
+
 in_allow : (allow : ℕ × ℕ) → IsTomlPair allow → IsWithin 51 (allow_line allow)
 unfolding allow_line
 in_allow allow small = wider _ (literal (codes "allow = ") >> in_pair allow small >> literal (codes "\n")) (omega arith)
 
 -- ---- the whole text
 
-in_task : (cap : ℕ) (task : Task) → IsTask cap task → IsStatableTask task → IsWithin 4000 (task_text task)
+in_task : (cap : ℕ) (task : Task) → IsTask cap task → IsStatableTask task → IsWithin 24000 (task_text task)
 unfolding task_text
 in_task cap task is small =
-    let few = is.table.few in
+    let few : All (λ (times : Table). length times ≤ 32) task.cycle = λ k d low. (is.tables k d low).few in
     let whole =
     literal (codes "\n[[task]]\n")
     >> in_name task.name small.name
     >> in_number_line (codes "offset") task.offset small.offset
     >> in_number_line (codes "period") task.period small.period
     >> in_number_line (codes "deadline") task.deadline small.deadline
-    >> in_times task.table small.times
+    >> in_tables task.cycle is.cycle_high few small.tables
     >> in_allow task.allow small.allow
     in
     wider _ whole (omega arith)
@@ -117,6 +141,6 @@ pub canonical_is_short : (sheet : Sheet) → IsAccepted sheet → length (canoni
 canonical_is_short sheet is =
     let small = accepted_are_statable sheet is in
     let few = is.few in
-    let tasks = for_each task_text 4000 sheet.tasks (λ k d low. in_task sheet.settings.cap _ (is.tasks k d low) (small.tasks k d low)) in
-    let whole = wider SHEET_LIMIT (in_settings sheet.settings small.settings >> tasks) (omega arith) in
+    let tasks = for_each task_text 24000 sheet.tasks (λ k d low. in_task sheet.settings.cap _ (is.tasks k d low) (small.tasks k d low)) in
+    let whole = wider SHEET_LIMIT (in_settings (canonical_format sheet.tasks) sheet.settings (format_small sheet.tasks) small.settings >> tasks) (omega arith) in
     whole.bytes

@@ -6,11 +6,12 @@ use Rattle.std.specs.List.{list_all, list_any}
 use Rattle.std.proofs.lemmas.Bool.{and_parts}
 use Rattle.std.proofs.lemmas.Bool.Decides.{nat_tests}
 use Rattle.std.proofs.lemmas.List.Elements.{All-head, All-tail}
-use Rattle.toml.specs.Text.{IsValueText, IsItemsText}
+use Rattle.toml.specs.Data.{array, Items, no_items, item}
+use Rattle.toml.specs.Text.{IsValueText, IsItemsText, breaks_lines}
 use Rattle.toml_writer.specs.Text.{is_control, has, needs_escape, quotes_after, escaped, encoding_of, string_text}
 use Rattle.prta_mass.specs.Table.{Table}
 use Rattle.prta_sheet.specs.Accepted.{is_name_byte}
-use Rattle.prta_sheet.specs.Canonical.{pair_text, next_pair_text, pairs_text, number_data, pair_data, pairs_data, IsTomlNumber, IsTomlPair}
+use Rattle.prta_sheet.specs.Canonical.{pair_text, next_pair_text, pairs_text, table_text, next_table_text, number_data, pair_data, pairs_data, tables_data, IsTomlNumber, IsTomlPair}
 
 -- ---- names
 
@@ -83,4 +84,38 @@ all_pairs (pair ∷ pairs) small = (
   simp append_assoc,
   pair_value pair (All-head IsTomlPair pair pairs small),
   later_pairs pairs (All-tail IsTomlPair pair pairs small),
+)
+
+-- ---- tables
+
+-- the arrays of the text stand on one line
+pub on_one_line : (items : Items) → breaks_lines false items ≡ false
+on_one_line no_items = refl
+on_one_line (item d no_items) = refl
+on_one_line (item d (item e items)) = refl
+
+table_value : (times : Table) → All IsTomlPair times → IsValueText false (array (pairs_data times)) (table_text times)
+unfolding table_text
+table_value times small = (pairs_text times ++ codes "]", simp append_assoc, rw (on_one_line (pairs_data times)) (all_pairs times small))
+
+abbrev AreTomlPairs : Table → Type 0
+AreTomlPairs times = All IsTomlPair times
+
+later_tables : (tables : List Table) → All AreTomlPairs tables → IsItemsText false false false (tables_data tables) (flat_map next_table_text tables ++ codes "]")
+later_tables [] small = refl
+later_tables (times ∷ tables) small = (
+  table_text times,
+  flat_map next_table_text tables ++ codes "]",
+  simp append_assoc,
+  table_value times (All-head AreTomlPairs times tables small),
+  later_tables tables (All-tail AreTomlPairs times tables small),
+)
+
+pub all_tables : (first : Table) (rest : List Table) → All AreTomlPairs (first ∷ rest) → IsItemsText false false true (tables_data (first ∷ rest)) (table_text first ++ (flat_map next_table_text rest ++ codes "]"))
+all_tables first rest small = (
+  table_text first,
+  flat_map next_table_text rest ++ codes "]",
+  refl,
+  table_value first (All-head AreTomlPairs first rest small),
+  later_tables rest (All-tail AreTomlPairs first rest small),
 )

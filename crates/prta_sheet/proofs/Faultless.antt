@@ -15,7 +15,7 @@ use Rattle.prta_sheet.specs.declared.fault.Place.{Place}
 use Rattle.prta_sheet.specs.declared.fault.SheetFault.TheVariants as fault
 use Rattle.prta_sheet.specs.Sheet.{Task, Sheet, task_at}
 use Rattle.prta_sheet.specs.Accepted.{is_good_name, HaveOwnNames, IsSupport, IsAllowance, AreSettings, IsTask, IsAccepted}
-use Rattle.prta_sheet.specs.SheetConditions.{in_range, support_ranges, settings_ranges, times_range, allow_range, task_ranges, part_ranges, task_count, has_name, is_bad_at, name_fault_at, name_fault, offset_fault, deadline_fault, part_fault}
+use Rattle.prta_sheet.specs.SheetConditions.{in_range, support_ranges, settings_ranges, has_long_time, cycle_range, allow_range, task_ranges, part_ranges, task_count, has_name, is_bad_at, name_fault_at, name_fault, offset_fault, deadline_fault, part_fault}
 use Rattle.prta_sheet.proofs.FirstOf.{both_none, when_false, none_mapped, none_of_range, none_below}
 use Rattle.prta_sheet.proofs.Ranges.{no_position}
 use Rattle.prta_sheet.proofs.Accepts.{head_of, no_fault}
@@ -38,6 +38,9 @@ no_later_time pairs is k d low =
           let same : k ≡ length pairs - 1 = omega arith in
           omega (arith, ap (λ i. (get_or pairs i (0, 0)).0) same, ap time (get_or_default pairs k d (0, 0) low))
     ]
+
+no_long_time : (pairs : Table) → IsTable pairs → greatest pairs ≤ TIME_LIMIT → has_long_time pairs ≡ false
+no_long_time pairs is limit = list_any_none (λ (pair : ℕ × ℕ). nat_lt TIME_LIMIT pair.0) pairs (λ k d low. let within = no_later_time pairs is k d low in le-ltb _ _ (omega arith))
 
 -- ---- ranges
 
@@ -63,12 +66,12 @@ ranges_none high i task small is =
     let offset = is.offset in
     let period = is.period_high in
     let deadline = is.deadline_high in
-    let limit = is.times in
     both_none _ _ (in_range_none _ _ 0 999999 task.offset (omega arith) (omega arith))
     (both_none _ _ (in_range_none _ _ _ _ _ is.period_low is.period_high)
     (both_none _ _ (in_range_none _ _ 1 1000000 task.deadline is.deadline_low (omega arith))
-    (both_none (times_range i task.table) (allow_range i task.allow)
-    (when_false _ _ (list_any_none (λ (pair : ℕ × ℕ). nat_lt TIME_LIMIT pair.0) task.table (λ k d low. let within = no_later_time task.table is.table k d low in le-ltb _ _ (omega arith))))
+    (both_none (cycle_range i task.cycle) (allow_range i task.allow)
+    (both_none _ _ (in_range_none _ _ _ _ _ is.cycle_low is.cycle_high)
+    (when_false _ _ (list_any_none has_long_time task.cycle (λ j e l. no_long_time (get_or task.cycle j e) (is.tables j e l) (is.times j e l)))))
     (when_false _ _ (allow_none task.allow.0 task.allow.1 is.allow)))))
 
 -- ---- names
@@ -106,4 +109,4 @@ faultless makes sheet is =
     let offsets : offset_fault tasks ≡ None = none_mapped fault.OffsetNotBelowPeriod _ (no_position (λ (task : Task). nat_le task.period task.offset) tasks (λ k d low. lt-leb _ _ (is.tasks k d low).offset)) in
     let head : head_of tasks ≡ None = both_none (task_count tasks) _ count (both_none (name_fault tasks) _ names offsets) in
     let deadlines : deadline_fault cap tasks ≡ None = none_mapped fault.DeadlineNotBelowCap _ (no_position (λ (task : Task). nat_lt cap (task.deadline + 2)) tasks (λ k d low. le-ltb _ _ (is.tasks k d low).deadline_high)) in
-    no_fault sheet ranges head (λ k d low. (makes (get_or tasks k d).table).1 (is.tasks k d low).table) deadlines is.short_hyperperiod is.jobs is.work
+    no_fault sheet ranges head (λ k d low j e l. (makes (get_or (get_or tasks k d).cycle j e)).1 ((is.tasks k d low).tables j e l)) deadlines is.short_hyperperiod is.jobs is.work

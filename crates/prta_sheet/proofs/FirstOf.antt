@@ -1,5 +1,5 @@
 -- The first answer: of two, of a chain, along a list and along a range.
-use Rattle.std.proofs.Common.{◌≡◌, ℕ, zero, suc, ◌+◌, ◌<◌, ◌≤◌, Bool, true, false, Option, Some, None, option_map, List, [], ◌∷◌, ◌++◌, refl, ap, sym, ◌∙◌, arith, inl, inr}
+use Rattle.std.proofs.Common.{◌≡◌, ℕ, zero, suc, ◌+◌, ◌<◌, ◌≤◌, Bool, true, false, Option, Some, None, option_map, List, [], ◌∷◌, ◌++◌, refl, ap, sym, ◌∙◌, subst, arith, inl, inr}
 use Rattle.std.specs.List.{range_with_len}
 use Rattle.std.specs.Option.{option_or}
 use Rattle.std.proofs.lemmas.Bool.{cases_lt}
@@ -65,6 +65,14 @@ module _ {X : Type 0} where
           | inl later ↦ none_in_range (from + 1) n k (next_none (f from) (first_of f (range_with_len (from + 1) n)) h) (omega arith) (omega arith)
           | inr now ↦ let same : k ≡ from = omega arith in rw same (first_none (f from) (first_of f (range_with_len (from + 1) n)) h)
         ]
+
+-- what holds below a place and at it holds below the next
+pub below_next : (P : ℕ → Type 0) (n : ℕ) → ((k : ℕ) → k < n → P k) → P n → (k : ℕ) → k < n + 1 → P k
+below_next P n before here k low =
+    elim (cases_lt k n) [
+      | inl less ↦ before k less
+      | inr past ↦ let same : n ≡ k = omega arith in subst P same here
+    ]
 
 -- ---- chains of `or`
 

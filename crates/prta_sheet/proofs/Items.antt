@@ -1,11 +1,11 @@
 -- The values of an array.
-use Rattle.std.proofs.Common.{◌≡◌, ◌≢◌, ℤ, Bool, false, ◌&&◌, Some, unwrap_or, List, [], ◌∷◌, length, refl, ap, ◌∙◌}
+use Rattle.std.proofs.Common.{◌≡◌, ◌≢◌, ℤ, Bool, false, ◌&&◌, nat_le, Some, unwrap_or, List, [], ◌∷◌, length, refl, ap, ap₂, sym, ◌∙◌, arith}
 use Rattle.std.specs.List.{list_all}
 use Rattle.std.specs.Option.{option_map_or}
 use Rattle.toml.specs.Data.{Data, string, integer, float, boolean, datetime, array, table, Items, item, no_items, as_array}
 use Rattle.toml.specs.View.{view, items_view}
 use Rattle.toml.specs.declared.value.Value.{Value}
-use Rattle.prta_sheet.specs.Format.{each_item, is_array_of, is_pair_with}
+use Rattle.prta_sheet.specs.Format.{each_item, item_count, is_array_of, is_pair_with, is_times, is_cycle}
 use Rattle.prta_sheet.specs.Reading.{integers_of}
 
 -- what gives one answer for none, one, and three items or more gives it for items that aren't two
@@ -32,6 +32,23 @@ is_array_of_values test (float x) values e = cc
 is_array_of_values test (boolean b) values e = cc
 is_array_of_values test (datetime t) values e = cc
 is_array_of_values test (table entries) values e = cc
+
+-- the items are as many as the values
+pub item_count_view : (values : List Value) → item_count (items_view values) ≡ length values
+item_count_view [] = refl
+item_count_view (v ∷ values) = omega (arith, item_count_view values)
+
+-- an array of few tables, by its values
+pub is_cycle_of_values : (d : Data) (values : List Value) → Some (items_view values) ≡ as_array d → ((nat_le 1 (length values) && nat_le (length values) 16) && list_all (λ v. is_times (view v)) values) ≡ is_cycle d
+is_cycle_of_values (array items) values e =
+    ap₂ (λ n b. (nat_le 1 n && nat_le n 16) && b) (sym (item_count_view values)) (each_item_view is_times values)
+    ∙ ap (λ o. (nat_le 1 (item_count (unwrap_or o no_items)) && nat_le (item_count (unwrap_or o no_items)) 16) && each_item is_times (unwrap_or o no_items)) e
+is_cycle_of_values (string s) values e = cc
+is_cycle_of_values (integer n) values e = cc
+is_cycle_of_values (float x) values e = cc
+is_cycle_of_values (boolean b) values e = cc
+is_cycle_of_values (datetime t) values e = cc
+is_cycle_of_values (table entries) values e = cc
 
 -- a test of two integers is one of the two that the array has
 pub is_pair_with_integers : (test : ℤ → ℤ → Bool) (d : Data) → is_pair_with test d ≡ option_map_or (λ p. test p.0 p.1) (integers_of d) false

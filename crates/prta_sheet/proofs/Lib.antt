@@ -8,11 +8,11 @@ pub mod Items
 pub mod FirstOf
 pub mod Spots
 pub mod Keys
-pub mod OneTask
 pub mod Below
 pub mod Multiples
-pub mod Releases
+pub mod JobSums
 pub mod Whole
+pub mod Cycles
 pub mod WorkSums
 pub mod CanonicalValues
 pub mod CanonicalLines
@@ -25,6 +25,7 @@ pub mod AllPass
 pub mod Ranges
 pub mod Accepts
 pub mod Faultless
+pub mod StatedTables
 pub mod ReadItems
 pub mod Heads
 pub mod ReadsStated
@@ -33,3 +34,4 @@ pub mod StatedSheet
 pub mod StatedDocument
 pub mod CanonicalLength
 pub mod RoundTrip
+pub mod Formats

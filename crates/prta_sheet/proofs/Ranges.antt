@@ -9,7 +9,7 @@ use Rattle.std.proofs.lemmas.List.Sums.{fails_before_first, position_or_len_is}
 use Rattle.prta_mass.specs.Table.{Table, greatest}
 use Rattle.prta_mass.specs.declared.support.Support.{Support}
 use Rattle.prta_sheet.specs.declared.settings.Settings.{Settings}
-use Rattle.prta_sheet.specs.declared.limits.TheConstants.{TIME_LIMIT, PERIOD_LIMIT}
+use Rattle.prta_sheet.specs.declared.limits.TheConstants.{CYCLE_LIMIT, TIME_LIMIT, PERIOD_LIMIT}
 use Rattle.prta_sheet.specs.declared.fault.Key.{Key}
 use Rattle.prta_sheet.specs.declared.fault.Key.TheVariants as key
 use Rattle.prta_sheet.specs.declared.fault.Place.{Place}
@@ -18,7 +18,7 @@ use Rattle.prta_sheet.specs.declared.fault.SheetFault.{SheetFault}
 use Rattle.prta_sheet.specs.Sheet.{Task, Sheet, task_at}
 use Rattle.prta_sheet.specs.Accepted.{AreSettings, IsSupport, IsAllowance}
 use Rattle.prta_sheet.specs.DocumentConditions.{first_of}
-use Rattle.prta_sheet.specs.SheetConditions.{in_range, support_ranges, settings_ranges, times_range, allow_range, task_ranges, part_ranges}
+use Rattle.prta_sheet.specs.SheetConditions.{in_range, support_ranges, settings_ranges, has_long_time, cycle_range, allow_range, task_ranges, part_ranges}
 use Rattle.prta_sheet.proofs.FirstOf.{first_none, next_none, when_none, none_in_range}
 
 -- ---- lists
@@ -88,7 +88,9 @@ pub record IsInRanges (task : Task) : Type 0 where
   pub period_high : task.period ≤ PERIOD_LIMIT
   pub deadline_low : 1 ≤ task.deadline
   pub deadline_high : task.deadline ≤ PERIOD_LIMIT
-  pub times : All (λ pair. nat_lt TIME_LIMIT pair.0 ≡ false) task.table
+  pub cycle_low : 1 ≤ length task.cycle
+  pub cycle_high : length task.cycle ≤ CYCLE_LIMIT
+  pub times : All (λ table. has_long_time table ≡ false) task.cycle
   pub allow : IsAllowance task.allow
 
 allowance : (p q : ℕ) → not ((nat_le 1 q && nat_le q (10 ^ 18)) && nat_le p q) ≡ false → IsAllowance (p, q)
@@ -102,21 +104,26 @@ is_in_ranges i task h =
     let after_period = next_none (in_range (place.Task i) key.Period 1 1000000 task.period) _ after_offset in
     let deadline = within_range (place.Task i) key.Deadline 1 1000000 task.deadline (first_none _ _ after_period) in
     let after_deadline = next_none (in_range (place.Task i) key.Deadline 1 1000000 task.deadline) _ after_period in
-    let times = first_none (times_range i task.table) (allow_range i task.allow) after_deadline in
-    let allow = next_none (times_range i task.table) (allow_range i task.allow) after_deadline in
+    let cycle = first_none (cycle_range i task.cycle) (allow_range i task.allow) after_deadline in
+    let allow = next_none (cycle_range i task.cycle) (allow_range i task.allow) after_deadline in
+    let size = within_range (place.Task i) key.Cycle 1 CYCLE_LIMIT (length task.cycle) (first_none _ _ cycle) in
+    let times = next_none (in_range (place.Task i) key.Cycle 1 CYCLE_LIMIT (length task.cycle)) _ cycle in
     record {
       offset = offset.1;
       period_low = period.0;
       period_high = period.1;
       deadline_low = deadline.0;
       deadline_high = deadline.1;
-      times = fails_at (λ (pair : ℕ × ℕ). nat_lt TIME_LIMIT pair.0) task.table (when_none _ _ times);
+      cycle_low = size.0;
+      cycle_high = size.1;
+      times = fails_at has_long_time task.cycle (when_none _ _ times);
       allow = allowance task.allow.0 task.allow.1 (when_none _ _ allow);
     }
 
 -- the greatest time is one of the times
-pub greatest_within : (table : Table) → 0 < length table → All (λ pair. nat_lt TIME_LIMIT pair.0 ≡ false) table → greatest table ≤ TIME_LIMIT
-greatest_within table some times = let last = times (length table - 1) (0, 0) (omega arith) in grind (arith, nat_tests)
+pub greatest_within : (table : Table) → 0 < length table → has_long_time table ≡ false → greatest table ≤ TIME_LIMIT
+greatest_within table some times =
+    let last = fails_at (λ (pair : ℕ × ℕ). nat_lt TIME_LIMIT pair.0) table times (length table - 1) (0, 0) (omega arith) in grind (arith, nat_tests)
 
 -- ---- a sheet
 

@@ -1,24 +1,24 @@
 -- Reading an array, one value after the other.
-use Rattle.std.proofs.Common.{◌≡◌, ℕ, zero, suc, Bool, true, false, nat_lt, lt-ltb, option_map, position, Bor, BTreeMap, String, Global, ◌+◌, ◌<◌, ◌≤◌, Option, Some, None, List, [], ◌∷◌, ◌++◌, length, get_or, drop, map, codes, refl, ap, ap₂, sym, ◌∙◌, append_assoc, append-nil, arith}
-use Rattle.std.proofs.lemmas.List.{drop_all}
+use Rattle.std.proofs.Common.{◌≡◌, ℕ, zero, suc, Bool, true, false, ◌||◌, lt-ltb, option_map, position, Bor, BTreeMap, String, Global, ◌+◌, ◌<◌, ◌≤◌, Option, Some, None, List, [], ◌∷◌, ◌++◌, length, get_or, drop, map, codes, refl, ap, ap₂, sym, ◌∙◌, append_assoc, append-nil, arith}
+use Rattle.std.proofs.lemmas.List.{drop_all, drop_more}
 use Rattle.std.proofs.lemmas.Simd.{map-map}
-use Rattle.toml.specs.Data.{Items, Members, no_items, item, as_table}
+use Rattle.toml.specs.Data.{Items, Members, no_items, item, as_array, as_table}
 use Rattle.toml.specs.View.{view, items_view, table_view}
 use Rattle.toml.specs.declared.value.Value.{Value}
 use Rattle.toml.proofs.Views.{items_view-drop}
-use Rattle.std.specs.List.{position_or_len}
+use Rattle.std.specs.List.{list_any, position_or_len}
 use Rattle.std.proofs.lemmas.List.Sums.{position_or_len_is}
-use Rattle.prta_mass.specs.Table.{Table, shape_fault, total}
-use Rattle.prta_mass.specs.declared.table.TheConstants.{TOTAL_LIMIT}
+use Rattle.prta_mass.specs.Table.{Table, or_else, shape_fault}
 use Rattle.prta_mass.specs.declared.table.TableFault.{TableFault}
 use Rattle.prta_sheet.specs.declared.fault.SheetFault.TheVariants.{BadTable, TotalTooLarge}
 use Rattle.prta_sheet.specs.declared.settings.Settings.{Settings}
 use Rattle.prta_sheet.specs.Sheet.{Task, task_at}
 use Rattle.prta_sheet.specs.Document.{array_at}
+use Rattle.prta_sheet.specs.DocumentConditions.{first_of}
 use Rattle.prta_sheet.specs.SheetConditions.{table_fault_at, table_fault, total_fault}
 use Rattle.prta_sheet.proofs.FirstOf.{map_none, none_in_range}
 use Rattle.prta_sheet.proofs.Ranges.{All_from_places, no_position}
-use Rattle.prta_sheet.specs.Reading.{point_of, points_of_items, with_table, tables_of_items, task_tables, read_task, with_read_task, read_task_items, read_tasks, read_settings, read}
+use Rattle.prta_sheet.specs.Reading.{point_of, points_of_items, points_of, is_heavy, read_cycle_items, with_table, tables_of_items, task_tables, read_task, with_read_task, read_task_items, read_tasks, read_settings, read}
 
 module _ (values : List Value) where
   pub items_past : (i : ℕ) → length values ≤ i → items_view (drop i values) ≡ no_items
@@ -28,11 +28,17 @@ module _ (values : List Value) where
   abbrev pub points_from : Table → ℕ → Table
   points_from front i = front ++ points_of_items (items_view (drop i values))
 
+  abbrev pub cycle_from : List Table → ℕ → List Table
+  cycle_from front i = front ++ read_cycle_items (items_view (drop i values))
+
   abbrev pub tables_from : List Members → ℕ → List Members
   tables_from front i = front ++ tables_of_items (items_view (drop i values))
 
   pub points_done : (front : Table) (i : ℕ) → length values ≤ i → points_from front i ≡ front
   points_done front i high = rw (items_past i high) (append-nil front)
+
+  pub cycle_done : (front : List Table) (i : ℕ) → length values ≤ i → cycle_from front i ≡ front
+  cycle_done front i high = rw (items_past i high) (append-nil front)
 
   pub tables_done : (front : List Members) (i : ℕ) → length values ≤ i → tables_from front i ≡ front
   tables_done front i high = rw (items_past i high) (append-nil front)
@@ -42,6 +48,11 @@ module _ (values : List Value) where
     points_more front =
         let rest = points_of_items (items_view (drop (i + 1) values)) in
         rw (items_view-drop values i value low) (ap (λ v. front ++ point_of (view v) ∷ rest) (sym is) ∙ sym (append_assoc front (point_of (view value) ∷ []) rest))
+
+    pub cycle_more : (front : List Table) → cycle_from front i ≡ cycle_from (front ++ points_of (as_array (view value)) ∷ []) (i + 1)
+    cycle_more front =
+        let rest = read_cycle_items (items_view (drop (i + 1) values)) in
+        rw (items_view-drop values i value low) (ap (λ v. front ++ points_of (as_array (view v)) ∷ rest) (sym is) ∙ sym (append_assoc front (points_of (as_array (view value)) ∷ []) rest))
 
     tables_here : (front : List Members) → tables_from front i ≡ front ++ with_table (as_table (view value)) (tables_of_items (items_view (drop (i + 1) values)))
     tables_here front =
@@ -87,20 +98,21 @@ read_of_tables doc settings tables same found =
     ap₂ (λ settings tasks. record { settings = settings; tasks = tasks }) same
     (sym (map-map read_task (λ t. table_view t.now) tables) ∙ ap (map read_task) found ∙ sym (read_tasks_each (array_at (codes "task") doc)))
 
--- the fault of its table
-pub fault_at : (tasks : List Task) (i : ℕ) (task : Task) (points : Table) (fault : Option TableFault) → task_at tasks i ≡ task → points ≡ task.table → fault ≡ shape_fault points →
-    table_fault_at tasks i ≡ option_map (BadTable i) fault
-fault_at tasks i task points fault at same is = ap (λ (t : Task). option_map (BadTable i) (shape_fault t.table)) at ∙ ap (λ table. option_map (BadTable i) (shape_fault table)) (sym same) ∙ ap (option_map (BadTable i)) (sym is)
+-- the first fault of the tables of its cycle
+pub fault_at : (tasks : List Task) (i : ℕ) (task : Task) (cycle : List Table) (fault : Option TableFault) → task_at tasks i ≡ task → cycle ≡ task.cycle → fault ≡ first_of shape_fault cycle
+    → table_fault_at tasks i ≡ option_map (BadTable i) fault
+fault_at tasks i task cycle fault at same is =
+    ap (λ (t : Task). option_map (BadTable i) (first_of shape_fault t.cycle)) at ∙ ap (λ tables. option_map (BadTable i) (first_of shape_fault tables)) (sym same) ∙ ap (option_map (BadTable i)) (sym is)
 
-pub no_fault_at : (tasks : List Task) (i : ℕ) → i < length tasks → table_fault tasks ≡ None → shape_fault (task_at tasks i).table ≡ None
-no_fault_at tasks i low none = map_none (BadTable i) (shape_fault (task_at tasks i).table) (none_in_range (table_fault_at tasks) 0 (length tasks) i none (omega arith) (omega arith))
+pub no_fault_at : (tasks : List Task) (i : ℕ) → i < length tasks → table_fault tasks ≡ None → first_of shape_fault (task_at tasks i).cycle ≡ None
+no_fault_at tasks i low none = map_none (BadTable i) (first_of shape_fault (task_at tasks i).cycle) (none_in_range (table_fault_at tasks) 0 (length tasks) i none (omega arith) (omega arith))
 
--- its weights sum to too much
+-- the weights of one of its tables sum to too much
+abbrev pub has_heavy : Task → Bool
+has_heavy task = list_any is_heavy task.cycle
+
 abbrev pub is_heavy_at : List Task → ℕ → Bool
-is_heavy_at tasks i = nat_lt TOTAL_LIMIT (total (task_at tasks i).table)
-
-abbrev is_heavy : Task → Bool
-is_heavy task = nat_lt TOTAL_LIMIT (total task.table)
+is_heavy_at tasks i = has_heavy (task_at tasks i)
 
 -- the first place at which a test passes
 pub position_first : {X : Type 0} (p : X → Bool) (xs : List X) (i : ℕ) (d : X) → i < length xs → ((k : ℕ) → k < i → p (get_or xs k d) ≡ false) → p (get_or xs i d) ≡ true → position p xs ≡ Some i
@@ -109,7 +121,43 @@ position_first p xs i d low before here =
     rw (place, lt-ltb i (length xs) low) refl
 
 pub first_heavy : (tasks : List Task) (i : ℕ) → i < length tasks → ((k : ℕ) → k < i → is_heavy_at tasks k ≡ false) → is_heavy_at tasks i ≡ true → total_fault tasks ≡ Some (TotalTooLarge i)
-first_heavy tasks i low before here = ap (option_map TotalTooLarge) (position_first is_heavy tasks i _ low before here)
+first_heavy tasks i low before here = ap (option_map TotalTooLarge) (position_first has_heavy tasks i _ low before here)
 
 pub none_heavy : (tasks : List Task) → ((k : ℕ) → k < length tasks → is_heavy_at tasks k ≡ false) → total_fault tasks ≡ None
-none_heavy tasks light = ap (option_map TotalTooLarge) (no_position is_heavy tasks (All_from_places (λ task. is_heavy task ≡ false) tasks _ light))
+none_heavy tasks light = ap (option_map TotalTooLarge) (no_position has_heavy tasks (All_from_places (λ task. has_heavy task ≡ false) tasks _ light))
+
+-- ---- the tables of a cycle, each as its points
+
+module _ {X : Type 0} (points : X → Table) (cycle : List X) where
+  -- the first fault of shape from the i-th table on
+  abbrev pub faults_from : ℕ → Option TableFault
+  faults_from i = first_of shape_fault (map points (drop i cycle))
+
+  -- the weights of one of the tables from the i-th on sum to too much
+  abbrev pub heavy_from : ℕ → Bool
+  heavy_from i = list_any is_heavy (map points (drop i cycle))
+
+  -- what is made, in front of what is still to be made
+  abbrev pub made_from : List Table → ℕ → List Table
+  made_from front i = front ++ map points (drop i cycle)
+
+  pub no_faults_past : (i : ℕ) → length cycle ≤ i → faults_from i ≡ None
+  no_faults_past i high = rw (drop_all i cycle high)
+
+  pub none_heavy_past : (i : ℕ) → length cycle ≤ i → heavy_from i ≡ false
+  none_heavy_past i high = rw (drop_all i cycle high)
+
+  pub made_past : (front : List Table) (i : ℕ) → length cycle ≤ i → made_from front i ≡ front
+  made_past front i high = rw (drop_all i cycle high) (append-nil front)
+
+  module _ (i : ℕ) (x : X) (low : i < length cycle) (is : x ≡ get_or cycle i x) where
+    pub faults_more : faults_from i ≡ or_else (shape_fault (points x)) (faults_from (i + 1))
+    faults_more = rw (drop_more cycle i x low) (ap (λ y. or_else (shape_fault (points y)) (faults_from (i + 1))) (sym is))
+
+    pub heavy_more : heavy_from i ≡ (is_heavy (points x) || heavy_from (i + 1))
+    heavy_more = rw (drop_more cycle i x low) (ap (λ y. is_heavy (points y) || heavy_from (i + 1)) (sym is))
+
+    pub made_more : (front : List Table) → made_from front i ≡ made_from (front ++ points x ∷ []) (i + 1)
+    made_more front =
+        let rest = map points (drop (i + 1) cycle) in
+        rw (drop_more cycle i x low) (ap (λ y. front ++ points y ∷ rest) (sym is) ∙ sym (append_assoc front (points x ∷ []) rest))

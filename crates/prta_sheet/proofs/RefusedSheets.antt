@@ -19,4 +19,16 @@ refused_sheets = record {
   greatest_total = refl;
   low_cap = refl;
   least_cap = refl;
+  third_format = refl;
+  second_format = refl;
+  cycle = refl;
+  greatest_cycle = refl;
+  early_cycle = refl;
+  both = refl;
+  neither = refl;
+  no_array = refl;
+  no_tables = refl;
+  many_tables = refl;
+  second_falls = refl;
+  second_total = refl;
 }

@@ -26,13 +26,16 @@ module _ (makes : FaultlessPairs) (sheet : Sheet) (is : IsAccepted sheet) where
   short_enough : nat_lt SHEET_LIMIT (length (canonical_text sheet)) ≡ false
   short_enough = let short = canonical_is_short sheet is in grind (arith, nat_tests)
 
+  stands : stated (document_of sheet) ≡ sheet
+  stands = sheet_is_stated sheet (λ k d low. (is.tasks k d low).cycle_low)
+
   document_accepted : document_refusal (document_of sheet) ≡ None
   document_accepted =
-      let later = subst (λ (s : Sheet). later_fault s ≡ None) (sym (sheet_is_stated sheet)) (next_none (part_ranges sheet) (later_fault sheet) (faultless makes sheet is)) in
+      let later = subst (λ (s : Sheet). later_fault s ≡ None) (sym stands) (next_none (part_ranges sheet) (later_fault sheet) (faultless makes sheet is)) in
       both_none _ _ (document_passes sheet is) later
 
   accepted : refusal (canonical_text sheet) ≡ None
   accepted = both_none _ _ (when_false _ _ short_enough) (subst (λ o. refusal_of o ≡ None) (sym states) document_accepted)
 
 pub canonical_is_read : FaultlessPairs → CanonicalIsRead
-canonical_is_read makes sheet is = (accepted makes sheet is, ap (option_map stated) (states makes sheet is) ∙ ap Some (sheet_is_stated sheet))
+canonical_is_read makes sheet is = (accepted makes sheet is, ap (option_map stated) (states makes sheet is) ∙ ap Some (stands makes sheet is))

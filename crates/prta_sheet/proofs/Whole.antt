@@ -3,38 +3,42 @@ use Rattle.std.proofs.Common.{◌≡◌, ℕ, ◌*◌, ◌/◌, ◌%◌, ◌<◌
 use Rattle.std.proofs.lemmas.List.{get_or_default}
 use Rattle.std.proofs.lemmas.List.Sums.{sum_by-cons, get_or-le-sum_by}
 use Rattle.std.proofs.lemmas.List.Elements.{All-weaker}
-use Rattle.std.proofs.Math.Nat.{dvd-mul_left_of_dvd, dvd_of_mod-eq-zero, mod-eq-zero_of_dvd}
-use Rattle.prta_sheet.specs.Sheet.{Task, Sheet, task_at, hyperperiod, horizon}
+use Rattle.std.proofs.lemmas.Nat.{mul-le}
+use Rattle.std.proofs.Math.Nat.{dvd-mul_left_of_dvd, mod-eq-zero_of_dvd}
+use Rattle.prta_sheet.specs.Sheet.{Task, Sheet, task_at, cycle_ticks, hyperperiod, horizon}
 use Rattle.prta_sheet.specs.Job.{jobs_before}
 use Rattle.prta_sheet.specs.Counts.{job_count}
 use Rattle.prta_sheet.specs.Accepted.{IsAccepted, IsTask}
 use Rattle.prta_sheet.proofs.Below.{sum_below, sum_below-same, sum_below-first}
-use Rattle.prta_sheet.proofs.Multiples.{hyperperiod_is_least}
-use Rattle.prta_sheet.proofs.Releases.{releases_whole, jobs_length, releases_before}
+use Rattle.prta_sheet.proofs.Multiples.{whole_periods}
+use Rattle.prta_sheet.proofs.JobSums.{releases_whole, jobs_length, releases_before}
 
 -- a sum over a list is one over its places
 pub sum_by_places : {X : Type 0} (f : X → ℕ) (xs : List X) (d : X) → sum_by f xs ≡ sum_below (λ i. f (get_or xs i d)) (length xs)
 sum_by_places f [] d = refl
 sum_by_places f (x ∷ xs) d = omega (arith, sum_by-cons f x xs, sum_by_places f xs d, sum_below-first (λ i. f (get_or (x ∷ xs) i d)) (length xs))
 
-module _ (tasks : List Task) (early : All (λ task. task.offset < task.period) tasks) (n : ℕ) where
+-- the premise of a least hyperperiod
+some_ticks : (tasks : List Task) → All (λ task. task.offset < task.period) tasks → All (λ task. 1 ≤ length task.cycle) tasks → All (λ task. 1 ≤ cycle_ticks task) tasks
+some_ticks tasks early some k d low = mul-le 1 1 (get_or tasks k d).period (length (get_or tasks k d).cycle) (omega (arith, early k d low)) (some k d low)
+
+module _ (tasks : List Task) (early : All (λ task. task.offset < task.period) tasks) (some : All (λ task. 1 ≤ length task.cycle) tasks) (n : ℕ) where
   abbrev end : ℕ
   end = n * hyperperiod tasks
 
-  pub whole_periods : All (λ task. end % task.period ≡ 0) tasks
-  whole_periods k d low =
+  end_is_whole : All (λ task. end % task.period ≡ 0) tasks
+  end_is_whole k d low =
       let period : ℕ = (get_or tasks k d).period in
-      let least = hyperperiod_is_least tasks (All-weaker (λ task. task.offset < task.period) (λ task. 1 ≤ task.period) (λ task h. omega arith) tasks early) in
-      mod-eq-zero_of_dvd period (dvd-mul_left_of_dvd period (dvd_of_mod-eq-zero period (least.multiple k d low)) n)
+      mod-eq-zero_of_dvd period (dvd-mul_left_of_dvd period (whole_periods tasks (some_ticks tasks early some) k d low) n)
 
   -- each task releases once for each of its periods
   pub jobs_of_task : (i : ℕ) → i < length tasks → length (filter (λ job. nat_eq job.task i) (jobs_before tasks end)) ≡ end / (task_at tasks i).period
-  jobs_of_task i low = releases_before tasks i end low ∙ releases_whole (task_at tasks i) end (early i _ low) (whole_periods i _ low)
+  jobs_of_task i low = releases_before tasks i end low ∙ releases_whole (task_at tasks i) end (early i _ low) (end_is_whole i _ low)
 
   pub jobs_of_all : length (jobs_before tasks end) ≡ sum_by (λ task. end / task.period) tasks
   jobs_of_all =
       jobs_length tasks end
-      ∙ sum_below-same _ _ (length tasks) (λ i low. releases_whole (task_at tasks i) end (early i _ low) (whole_periods i _ low))
+      ∙ sum_below-same _ _ (length tasks) (λ i low. releases_whole (task_at tasks i) end (early i _ low) (end_is_whole i _ low))
       ∙ sym (sum_by_places (λ task. end / task.period) tasks _)
 
   pub jobs_before_end : (h : ℕ) → h ≡ hyperperiod tasks → sum_by (λ task. n * h / task.period) tasks ≡ length (jobs_before tasks (n * h))
@@ -43,7 +47,7 @@ module _ (tasks : List Task) (early : All (λ task. task.offset < task.period) t
       subst Counts (sym e) (sym jobs_of_all)
 
   pub whole_at : (h : ℕ) → h ≡ hyperperiod tasks → All (λ task. n * h % task.period ≡ 0) tasks
-  whole_at h e = let AllWhole : ℕ → Type 0 = λ h. All (λ task. n * h % task.period ≡ 0) tasks in subst AllWhole (sym e) whole_periods
+  whole_at h e = let AllWhole : ℕ → Type 0 = λ h. All (λ task. n * h % task.period ≡ 0) tasks in subst AllWhole (sym e) end_is_whole
 
   -- no task has more jobs than all have
   pub jobs_within : (h : ℕ) → h ≡ hyperperiod tasks → (i : ℕ) → i < length tasks → n * h / (task_at tasks i).period ≤ length (jobs_before tasks end)
@@ -56,7 +60,10 @@ module _ (tasks : List Task) (early : All (λ task. task.offset < task.period) t
 pub offsets_from : (cap : ℕ) (tasks : List Task) → All (IsTask cap) tasks → All (λ task. task.offset < task.period) tasks
 offsets_from cap tasks h = All-weaker (IsTask cap) (λ task. task.offset < task.period) (λ task ranges. ranges.offset) tasks h
 
+pub cycles_from : (cap : ℕ) (tasks : List Task) → All (IsTask cap) tasks → All (λ task. 1 ≤ length task.cycle) tasks
+cycles_from cap tasks h = All-weaker (IsTask cap) (λ task. 1 ≤ length task.cycle) (λ task ranges. ranges.cycle_low) tasks h
+
 pub job_count_is : (sheet : Sheet) → IsAccepted sheet → (i : ℕ) → i < length sheet.tasks → (d : Task) → job_count sheet i ≡ horizon sheet / (get_or sheet.tasks i d).period
 job_count_is sheet accepted i low d =
-    jobs_of_task sheet.tasks (offsets_from sheet.settings.cap sheet.tasks accepted.tasks) sheet.settings.hyperperiods i low
+    jobs_of_task sheet.tasks (offsets_from sheet.settings.cap sheet.tasks accepted.tasks) (cycles_from sheet.settings.cap sheet.tasks accepted.tasks) sheet.settings.hyperperiods i low
     ∙ ap (λ (task : Task). horizon sheet / task.period) (get_or_default sheet.tasks i _ d low)

@@ -1,19 +1,20 @@
 -- The sums of a sheet's work, task by task.
-use Rattle.std.proofs.Common.{◌≡◌, ℕ, zero, suc, ◌+◌, ◌-◌, ◌*◌, ◌/◌, ◌%◌, ◌<◌, ◌≤◌, Bool, true, false, not, ◌&&◌, cond, nat_le, nat_lt, nat_eq, List, length, filter, sum_by, All, refl, ap, sym, ◌∙◌, arith, inl, inr}
+use Rattle.std.proofs.Common.{◌≡◌, ℕ, zero, suc, ◌+◌, ◌-◌, ◌*◌, ◌/◌, ◌%◌, ◌<◌, ◌≤◌, Bool, true, false, not, ◌&&◌, cond, nat_le, nat_lt, nat_eq, List, length, filter, sum_by, All, refl, ap, ap₂, sym, ◌∙◌, arith, inl, inr}
 use Rattle.std.specs.List.{range_with_len}
 use Rattle.std.proofs.lemmas.List.Sums.{sum_by-cons}
 use Rattle.std.proofs.lemmas.List.Elements.{All-weaker}
 use Rattle.std.proofs.lemmas.Bool.{cases_lt, le-leb, lt-leb, lt-ltb, le-ltb, ne_eqb, eq-eqb}
 use Rattle.std.proofs.Math.Nat.{div-lt_iff_lt-mul}
-use Rattle.prta_sheet.specs.Sheet.{Task, task_at}
+use Rattle.prta_sheet.specs.Sheet.{Task, task_at, table_in}
 use Rattle.prta_sheet.specs.Job.{Job, nth_job, jobs_before}
 use Rattle.prta_sheet.specs.Counts.{releases}
 use Rattle.prta_sheet.specs.Weights.{one_if}
-use Rattle.prta_sheet.specs.Work.{points_of, points_of_other, IsSmall}
-use Rattle.prta_sheet.proofs.Below.{sum_below, sum_below-same, sum_below-first, sum_below-constant, sum_below-none, sum_below-only}
+use Rattle.prta_sheet.specs.Work.{points_of, points_of_first, points_of_other, IsSmall}
+use Rattle.prta_sheet.proofs.Below.{sum_below, sum_below-same, sum_below-first, sum_below-rises, sum_below-none, sum_below-only}
 use Rattle.prta_sheet.proofs.Sums.{sum_by-filter}
-use Rattle.prta_sheet.proofs.Releases.{job_of, jobs_sum, releases_whole}
+use Rattle.prta_sheet.proofs.JobSums.{job_of, jobs_sum, releases_whole}
 use Rattle.prta_sheet.proofs.Whole.{sum_by_places}
+use Rattle.prta_sheet.proofs.Cycles.{points_first}
 
 -- a sum over a range
 pub sum_by_range : (f : ℕ → ℕ) (from n : ℕ) → sum_by f (range_with_len from n) ≡ sum_below (λ k. f (from + k)) n
@@ -27,20 +28,17 @@ sum_by_range f from (suc n) =
 pub sum_of_tasks : (f : ℕ → ℕ) (n : ℕ) → sum_below f n ≡ sum_by f (range_with_len 0 n)
 sum_of_tasks f n = sym (sum_by_range f 0 n ∙ sum_below-same _ _ n (λ k low. ap f (omega arith)))
 
--- a number counted from the place a on
-sum_below-from : (c a n : ℕ) → sum_below (λ k. c * one_if (nat_le a k)) n ≡ c * (n - a)
-sum_below-from c a zero = let none : 0 - a ≡ 0 = omega arith in rw none (omega arith)
-sum_below-from c a (suc n) =
+-- numbers counted from the place a on
+sum_below-from : (f : ℕ → ℕ) (a n : ℕ) → sum_below (λ k. f k * one_if (nat_le a k)) n ≡ sum_below f n - sum_below f a
+sum_below-from f a zero = omega arith
+sum_below-from f a (suc n) =
     elim (cases_lt n a) [
       | inl before ↦
           let no : nat_le a n ≡ false = lt-leb a n before in
-          let gone : suc n - a ≡ 0 = omega arith in
-          let earlier : n - a ≡ 0 = omega arith in
-          omega (arith, sum_below-from c a n, ap (λ b. c * one_if b) no, ap (λ m. c * m) gone, ap (λ m. c * m) earlier)
+          omega (arith, sum_below-from f a n, ap (λ b. f n * one_if b) no, sum_below-rises f (suc n) a before)
       | inr here ↦
           let ok : nat_le a n ≡ true = le-leb a n here in
-          let more : suc n - a ≡ (n - a) + 1 = omega arith in
-          omega (arith, sum_below-from c a n, ap (λ b. c * one_if b) ok, ap (λ m. c * m) more)
+          omega (arith, sum_below-from f a n, ap (λ b. f n * one_if b) ok, sum_below-rises f a n here)
     ]
 
 -- a job is released after r where it is none of its task's jobs before r + 1
@@ -74,10 +72,11 @@ after_number task some r k = number task.offset task.period some
 
 module _ (tasks : List Task) where
   -- the points of all jobs before t
-  pub points_sum : (t : ℕ) → sum_by (points_of tasks) (jobs_before tasks t) ≡ sum_below (λ i. releases (task_at tasks i) t * length (task_at tasks i).table) (length tasks)
-  points_sum t =
+  pub points_sum : All (λ task. 1 ≤ length task.cycle) tasks → (t : ℕ) →
+      sum_by (points_of tasks) (jobs_before tasks t) ≡ sum_below (λ i. points_of_first (task_at tasks i) (releases (task_at tasks i) t)) (length tasks)
+  points_sum some t =
       jobs_sum (points_of tasks) tasks t
-      ∙ sum_below-same _ _ (length tasks) (λ i low. sum_below-constant (length (task_at tasks i).table) (releases (task_at tasks i) t))
+      ∙ sum_below-same _ _ (length tasks) (λ i low. points_first (task_at tasks i) (some i _ low) (releases (task_at tasks i) t))
 
   -- a sum over the jobs of one task
   pub task_sum : (f : Job → ℕ) (i t : ℕ) → i < length tasks →
@@ -98,19 +97,21 @@ module _ (tasks : List Task) where
       none m n e = sum_below-none _ n (λ k l. without (f (job_of m (task_at tasks m) k)) (nat_eq m i) e)
 
   -- the points of other tasks' jobs released after one time and before another
-  pub between_sum : All (λ task. 1 ≤ task.period) tasks → (i after until : ℕ) →
+  pub between_sum : All IsSmall tasks → (i after until : ℕ) →
       sum_by (points_of tasks) (filter (λ other. not (nat_eq other.task i) && nat_lt after other.release) (jobs_before tasks until)) ≡ sum_below (points_of_other tasks i after until) (length tasks)
-  between_sum some i after until =
+  between_sum small i after until =
       sum_by-filter (λ other. not (nat_eq other.task i) && nat_lt after other.release) (points_of tasks) (jobs_before tasks until)
       ∙ jobs_sum (λ job. points_of tasks job * one_if (not (nat_eq job.task i) && nat_lt after job.release)) tasks until
-      ∙ sum_below-same _ _ (length tasks) (λ m low. each (task_at tasks m) (some m _ low) (nat_eq m i) (length (task_at tasks m).table) (releases (task_at tasks m) until))
+      ∙ sum_below-same _ _ (length tasks) (λ m low. each (task_at tasks m) (small m _ low) (nat_eq m i) (releases (task_at tasks m) until))
     where
-      each : (task : Task) → 1 ≤ task.period → (b : Bool) (c n : ℕ) →
-          sum_below (λ k. c * one_if (not b && nat_lt after (task.offset + k * task.period))) n ≡ cond b 0 (c * (n - releases task (after + 1)))
-      each task some true c n = sum_below-none _ n (λ k l. omega arith)
-      each task some false c n =
-          sum_below-same _ _ n (λ k l. ap (λ b. c * one_if b) (after_number task some after k))
-          ∙ sum_below-from c (releases task (after + 1)) n
+      each : (task : Task) → IsSmall task → (b : Bool) (n : ℕ) →
+          sum_below (λ k. length (table_in task k) * one_if (not b && nat_lt after (task.offset + k * task.period))) n
+          ≡ cond b 0 (points_of_first task n - points_of_first task (releases task (after + 1)))
+      each task is true n = sum_below-none _ n (λ k l. omega arith)
+      each task is false n =
+          sum_below-same _ _ n (λ k l. ap (λ b. length (table_in task k) * one_if b) (after_number task is.period after k))
+          ∙ sum_below-from (λ k. length (table_in task k)) (releases task (after + 1)) n
+          ∙ ap₂ (λ a b. a - b) (points_first task is.some_tables n) (points_first task is.some_tables (releases task (after + 1)))
 
 -- ---- before a horizon of whole periods
 
@@ -119,11 +120,8 @@ module _ (tasks : List Task) (small : All IsSmall tasks) (t : ℕ) where
   pub releases_at_end : (i : ℕ) → i < length tasks → t % (task_at tasks i).period ≡ 0 → releases (task_at tasks i) t ≡ t / (task_at tasks i).period
   releases_at_end i low whole = releases_whole (task_at tasks i) t (small i _ low).offset whole
 
-  pub all_points : All (λ task. t % task.period ≡ 0) tasks → sum_by (λ task. t / task.period * length task.table) tasks ≡ sum_by (points_of tasks) (jobs_before tasks t)
+  pub all_points : All (λ task. t % task.period ≡ 0) tasks → sum_by (λ task. points_of_first task (t / task.period)) tasks ≡ sum_by (points_of tasks) (jobs_before tasks t)
   all_points whole =
-      sum_by_places (λ task. t / task.period * length task.table) tasks _
-      ∙ sum_below-same _ _ (length tasks) (λ i low. ap (λ n. n * length (task_at tasks i).table) (sym (releases_at_end i low (whole i _ low))))
-      ∙ sym (points_sum tasks t)
-
-pub small_periods : (tasks : List Task) → All IsSmall tasks → All (λ task. 1 ≤ task.period) tasks
-small_periods tasks small = All-weaker IsSmall (λ task. 1 ≤ task.period) (λ task h. h.period) tasks small
+      sum_by_places (λ task. points_of_first task (t / task.period)) tasks _
+      ∙ sum_below-same _ _ (length tasks) (λ i low. ap (points_of_first (task_at tasks i)) (sym (releases_at_end i low (whole i _ low))))
+      ∙ sym (points_sum tasks (All-weaker IsSmall (λ task. 1 ≤ length task.cycle) (λ task h. h.some_tables) tasks small) t)

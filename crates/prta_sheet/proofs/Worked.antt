@@ -1,12 +1,13 @@
 -- The worked values of the model, by computation.
-use Rattle.std.proofs.Common.{◌≡◌, ℕ, zero, suc, ◌+◌, ◌<◌, ◌≤◌, Bool, true, nat_lt, List, refl, arith, inl, inr}
+use Rattle.std.proofs.Common.{◌≡◌, ℕ, zero, suc, ◌+◌, ◌<◌, ◌≤◌, Bool, true, nat_lt, List, [], ◌∷◌, replicate, refl, arith, inl, inr}
 use Rattle.std.specs.List.{list_all, range_with_len}
 use Rattle.std.proofs.lemmas.Bool.{and_parts, cases_lt}
 use Rattle.std.proofs.lemmas.Bool.Decides.{nat_tests}
 use Rattle.prta_sheet.specs.Job.{Job}
 use Rattle.prta_sheet.specs.Assignment.{Timed}
 use Rattle.prta_sheet.specs.Machine.{after, remaining, IsFinish}
-use Rattle.prta_sheet.specs.Worked.{WorkedValues}
+use Rattle.prta_sheet.specs.Worked.{task_in_turn, WorkedValues}
+use Rattle.prta_sheet.proofs.Multiples.{hyperperiod_of_one}
 
 -- a test that passes on a range passes at each of its numbers
 passes_in_range : (p : ℕ → Bool) (from n m : ℕ) → list_all p (range_with_len from n) ≡ true → from ≤ m → m < from + n → p m ≡ true
@@ -43,6 +44,13 @@ values = record {
   counts_of_pair = refl;
   all_jobs_of_pair = refl;
   work_of_pair = refl;
+  hyperperiod_in_turn = refl;
+  tables_in_turn = refl;
+  jobs_in_turn = refl;
+  first_in_turn = record { missed = refl; total = refl };
+  later_in_turn = record { missed = refl; total = refl };
+  work_in_turn = refl;
+  long_in_turn = hyperperiod_of_one (task_in_turn 0 100000 1 (replicate 11 ((1, 1) ∷ []))) (omega arith);
   after_2 = refl;
   after_4 = refl;
   after_5 = refl;

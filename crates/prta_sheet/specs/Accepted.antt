@@ -5,7 +5,7 @@ use Rattle.std.specs.List.{list_all}
 use Rattle.prta_mass.specs.Table.{IsTable, greatest}
 use Rattle.prta_mass.specs.declared.support.Support.{Support}
 use Rattle.prta_sheet.specs.declared.settings.Settings.{Settings}
-use Rattle.prta_sheet.specs.declared.limits.TheConstants.{TASK_LIMIT, NAME_LIMIT, TIME_LIMIT, PERIOD_LIMIT, JOB_LIMIT, WORK_LIMIT}
+use Rattle.prta_sheet.specs.declared.limits.TheConstants.{TASK_LIMIT, NAME_LIMIT, CYCLE_LIMIT, TIME_LIMIT, PERIOD_LIMIT, JOB_LIMIT, WORK_LIMIT}
 use Rattle.prta_sheet.specs.Sheet.{Task, Sheet, task_at, hyperperiod}
 use Rattle.prta_sheet.specs.Counts.{all_jobs}
 use Rattle.prta_sheet.specs.Work.{work}
@@ -55,8 +55,10 @@ pub record IsTask (cap : ℕ) (task : Task) : Type 0 where
   pub period_high : task.period ≤ PERIOD_LIMIT
   pub deadline_low : 1 ≤ task.deadline
   pub deadline_high : task.deadline + 2 ≤ cap
-  pub table : IsTable task.table
-  pub times : greatest task.table ≤ TIME_LIMIT
+  pub cycle_low : 1 ≤ length task.cycle
+  pub cycle_high : length task.cycle ≤ CYCLE_LIMIT
+  pub tables : All IsTable task.cycle
+  pub times : All (λ table. greatest table ≤ TIME_LIMIT) task.cycle
   pub allow : IsAllowance task.allow
 
 pub record IsAccepted (sheet : Sheet) : Type 0 where

@@ -1,5 +1,6 @@
 -- The canonical text of a sheet, which has all its keys, and the document that it states.
-use Rattle.std.specs.Prelude.{◌≡◌, ℕ, ◌<◌, ◌≤◌, ◌^◌, true, pos, Option, Some, None, List, [], ◌∷◌, ◌++◌, flat_map, length, codes, decimal, All}
+use Rattle.std.specs.Prelude.{◌≡◌, ℕ, ◌<◌, ◌≤◌, ◌^◌, true, pos, Option, Some, None, List, [], ◌∷◌, ◌++◌, flat_map, length, codes, decimal, nat_eq, if◌then◌else◌, All}
+use Rattle.std.specs.List.{list_all}
 use Rattle.toml.specs.Data.{Data, string, integer, array, table, Items, no_items, item, Members, no_members, member}
 use Rattle.prta_mass.specs.Table.{Table}
 use Rattle.prta_mass.specs.declared.support.Support.{Support}
@@ -22,9 +23,13 @@ abbrev pub support_text : Option Support → List ℕ
 support_text None = []
 support_text (Some support) = support_line support
 
-unfoldable pub settings_text : Settings → List ℕ
-settings_text settings =
-    number_line (codes "format") 1
+-- 1 where every cycle has one table, else 2
+abbrev pub canonical_format : List Task → ℕ
+canonical_format tasks = if list_all (λ task. nat_eq (length task.cycle) 1) tasks then 1 else 2
+
+unfoldable pub settings_text : ℕ → Settings → List ℕ
+settings_text format settings =
+    number_line (codes "format") format
     ++ number_line (codes "cap") settings.cap
     ++ number_line (codes "hyperperiods") settings.hyperperiods
     ++ number_line (codes "turns") settings.turns
@@ -47,6 +52,22 @@ pairs_text (pair ∷ pairs) = pair_text pair ++ flat_map next_pair_text pairs
 unfoldable pub times_line : Table → List ℕ
 times_line times = codes "times = [" ++ pairs_text times ++ codes "]\n"
 
+unfoldable pub table_text : Table → List ℕ
+table_text times = codes "[" ++ pairs_text times ++ codes "]"
+
+-- a table after others
+abbrev pub next_table_text : Table → List ℕ
+next_table_text times = codes ", " ++ table_text times
+
+unfoldable pub cycle_line : Table → List Table → List ℕ
+cycle_line first rest = codes "cycle = [" ++ table_text first ++ flat_map next_table_text rest ++ codes "]\n"
+
+-- a cycle of one table stands under `times`
+abbrev pub tables_line : List Table → List ℕ
+tables_line [] = []
+tables_line (times ∷ []) = times_line times
+tables_line (first ∷ second ∷ rest) = cycle_line first (second ∷ rest)
+
 unfoldable pub allow_line : ℕ × ℕ → List ℕ
 allow_line allow = codes "allow = " ++ pair_text allow ++ codes "\n"
 
@@ -58,11 +79,11 @@ task_text task =
     ++ number_line (codes "offset") task.offset
     ++ number_line (codes "period") task.period
     ++ number_line (codes "deadline") task.deadline
-    ++ times_line task.table
+    ++ tables_line task.cycle
     ++ allow_line task.allow
 
 abbrev pub canonical_text : Sheet → List ℕ
-canonical_text sheet = settings_text sheet.settings ++ flat_map task_text sheet.tasks
+canonical_text sheet = settings_text (canonical_format sheet.tasks) sheet.settings ++ flat_map task_text sheet.tasks
 
 -- ---- the document
 
@@ -76,16 +97,29 @@ abbrev pub pairs_data : Table → Items
 pairs_data [] = no_items
 pairs_data (pair ∷ pairs) = item (pair_data pair) (pairs_data pairs)
 
--- the members of a table stand by rising key
+abbrev pub tables_data : List Table → Items
+tables_data [] = no_items
+tables_data (times ∷ tables) = item (array (pairs_data times)) (tables_data tables)
+
+-- the members of a table stand by rising key: `cycle`, where it is there, after `allow`, and `times` last
+abbrev pub with_cycle : List Table → Members → Members
+with_cycle [] rest = rest
+with_cycle (times ∷ []) rest = rest
+with_cycle (first ∷ second ∷ tables) rest = member (codes "cycle") (array (tables_data (first ∷ second ∷ tables))) rest
+
+abbrev pub times_member : List Table → Members
+times_member (times ∷ []) = member (codes "times") (array (pairs_data times)) no_members
+times_member _ = no_members
+
 abbrev pub task_document : Task → Members
 task_document task =
     member (codes "allow") (pair_data task.allow)
+    (with_cycle task.cycle
     (member (codes "deadline") (number_data task.deadline)
     (member (codes "name") (string task.name)
     (member (codes "offset") (number_data task.offset)
     (member (codes "period") (number_data task.period)
-    (member (codes "times") (array (pairs_data task.table))
-    no_members)))))
+    (times_member task.cycle))))))
 
 abbrev pub tasks_data : List Task → Items
 tasks_data [] = no_items
@@ -101,7 +135,7 @@ with_support (Some support) rest = member (codes "support") (support_data suppor
 abbrev pub document_of : Sheet → Members
 document_of sheet =
     member (codes "cap") (number_data sheet.settings.cap)
-    (member (codes "format") (number_data 1)
+    (member (codes "format") (number_data (canonical_format sheet.tasks))
     (member (codes "hyperperiods") (number_data sheet.settings.hyperperiods)
     (with_support sheet.settings.support
     (member (codes "task") (array (tasks_data sheet.tasks))
@@ -133,7 +167,8 @@ pub record IsStatableTask (task : Task) : Type 0 where
   pub offset : IsTomlNumber task.offset
   pub period : IsTomlNumber task.period
   pub deadline : IsTomlNumber task.deadline
-  pub times : All IsTomlPair task.table
+  pub some_tables : 1 ≤ length task.cycle
+  pub tables : All (All IsTomlPair) task.cycle
   pub allow : IsTomlPair task.allow
 
 pub record IsStatable (sheet : Sheet) : Type 0 where

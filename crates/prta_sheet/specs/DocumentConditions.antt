@@ -1,8 +1,8 @@
 -- The conditions on a sheet's document: the key `format`, and in each of its tables the keys, their kinds and their ranges.
-use Rattle.std.specs.Prelude.{ℕ, Bool, false, not, ◌+◌, ◌&&◌, nat_eq, is_none, Option, Some, None, List, [], ◌∷◌, ◌++◌, codes, bytes_eq, pos}
+use Rattle.std.specs.Prelude.{ℕ, Bool, false, not, ◌+◌, ◌&&◌, ◌||◌, nat_eq, is_none, Option, Some, None, List, [], ◌∷◌, ◌++◌, codes, bytes_eq}
 use Rattle.std.specs.List.{list_all, list_any}
 use Rattle.std.specs.Option.{option_map_or}
-use Rattle.toml.specs.Data.{Data, integer, Items, no_items, item, Members, get_member, as_table}
+use Rattle.toml.specs.Data.{Data, Items, no_items, item, Members, get_member, as_table}
 use Rattle.prta_mass.specs.Table.{or_else, when}
 use Rattle.prta_sheet.specs.declared.fault.Place.{Place}
 use Rattle.prta_sheet.specs.declared.fault.Place.TheVariants.{Top, Support, Task}
@@ -10,13 +10,17 @@ use Rattle.prta_sheet.specs.declared.fault.SheetFault.{SheetFault}
 use Rattle.prta_sheet.specs.declared.fault.SheetFault.TheVariants.{Format, UnknownKey, MissingKey, WrongKind, OutOfRange}
 use Rattle.prta_sheet.specs.declared.conditions.Condition.{Condition}
 use Rattle.prta_sheet.specs.declared.conditions.Condition.TheVariants.{Listed, Needed, Kind, Range}
-use Rattle.prta_sheet.specs.Format.{Row, top_rows, support_rows, task_rows}
-use Rattle.prta_sheet.specs.Document.{keys_of, table_at, array_at}
+use Rattle.prta_sheet.specs.Format.{Row, top_rows, support_rows, states_cycle, task_rows}
+use Rattle.prta_sheet.specs.Document.{keys_of, number_or, table_at, array_at}
 
 -- the first answer along a list
 abbrev pub first_of : {X Y : Type 0} → (X → Option Y) → List X → Option Y
 first_of f [] = None
 first_of f (x ∷ xs) = or_else (f x) (first_of f xs)
+
+-- the number of the format; 0 where there is none
+abbrev pub format_of : Members → ℕ
+format_of doc = number_or 0 (get_member (codes "format") doc)
 
 -- ---- the tables of a document
 
@@ -26,35 +30,34 @@ pub record Spot : Type 0 where
   pub rows : List Row
   pub table : Members
 
-abbrev pub spot : Place → List Row → Option Members → List Spot
+abbrev pub spot : Place → (Members → List Row) → Option Members → List Spot
 spot at rows None = []
-spot at rows (Some table) = record { at = at; rows = rows; table = table } ∷ []
+spot at rows (Some table) = record { at = at; rows = rows table; table = table } ∷ []
 
 -- the elements of `task` that are tables; the elements are counted from i
-abbrev pub task_spots : ℕ → Items → List Spot
-task_spots i no_items = []
-task_spots i (item first rest) = spot (Task i) task_rows (as_table first) ++ task_spots (i + 1) rest
+abbrev pub task_spots : ℕ → ℕ → Items → List Spot
+task_spots format i no_items = []
+task_spots format i (item first rest) = spot (Task i) (λ table. task_rows (states_cycle format table)) (as_table first) ++ task_spots format (i + 1) rest
 
-abbrev pub all_task_spots : Option Items → List Spot
-all_task_spots None = []
-all_task_spots (Some items) = task_spots 0 items
+abbrev pub all_task_spots : ℕ → Option Items → List Spot
+all_task_spots format None = []
+all_task_spots format (Some items) = task_spots format 0 items
 
 -- the top, `support` where it is a table, and the tables of `task` in order
 abbrev pub spots : Members → List Spot
 spots doc =
-    spot Top top_rows (Some doc)
-    ++ spot Support support_rows (table_at (codes "support") doc)
-    ++ all_task_spots (array_at (codes "task") doc)
+    spot Top (λ table. top_rows) (Some doc)
+    ++ spot Support (λ table. support_rows) (table_at (codes "support") doc)
+    ++ all_task_spots (format_of doc) (array_at (codes "task") doc)
 
 -- ---- the conditions
 
--- the value of `format` is the integer 1
-abbrev pub is_format : Option Data → Bool
-is_format (Some (integer (pos n))) = nat_eq n 1
-is_format _ = false
+-- the value of `format` is the integer 1 or 2
+abbrev pub is_format : ℕ → Bool
+is_format n = nat_eq n 1 || nat_eq n 2
 
 abbrev pub format_fault : Members → Option SheetFault
-format_fault doc = when (not (is_format (get_member (codes "format") doc))) Format
+format_fault doc = when (not (is_format (format_of doc))) Format
 
 -- the key is one of the rows'
 abbrev pub is_listed : List Row → List ℕ → Bool

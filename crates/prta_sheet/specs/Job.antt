@@ -1,7 +1,7 @@
 -- Jobs: what the tasks release, and when.
 use Rattle.std.specs.Prelude.{ℕ, zero, suc, ◌+◌, ◌-◌, ◌*◌, ◌/◌, ◌%◌, Bool, ◌&&◌, nat_le, nat_eq, if◌then◌else◌, List, [], ◌∷◌, ◌++◌}
 use Rattle.prta_mass.specs.Table.{Table}
-use Rattle.prta_sheet.specs.Sheet.{Task, Sheet, task_at, horizon}
+use Rattle.prta_sheet.specs.Sheet.{Task, Sheet, task_at, table_in, horizon}
 
 -- the k-th job of a task, k from 0 on: it is released at offset + k * period
 pub record Job : Type 0 where
@@ -9,9 +9,9 @@ pub record Job : Type 0 where
   pub number : ℕ
   pub release : ℕ
 
--- the table of a job is that of its task
+-- the table of a job: of its task's cycle the one with the job's number modulo the length
 abbrev pub table_of : List Task → Job → Table
-table_of tasks job = (task_at tasks job.task).table
+table_of tasks job = table_in (task_at tasks job.task) job.number
 
 -- the k-th job of task i
 abbrev pub nth_job : List Task → ℕ → ℕ → Job

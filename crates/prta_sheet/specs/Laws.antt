@@ -1,11 +1,11 @@
 -- Laws of the model, each the contract of a function.
-use Rattle.std.specs.Prelude.{◌≡◌, ℕ, ◌-◌, ◌*◌, ◌/◌, ◌%◌, ◌<◌, ◌≤◌, Bool, true, nat_lt, nat_eq, List, [], ◌∷◌, ◌++◌, filter, sum_by, length, All}
+use Rattle.std.specs.Prelude.{◌≡◌, ℕ, ◌+◌, ◌-◌, ◌*◌, ◌/◌, ◌%◌, ◌<◌, ◌≤◌, Bool, true, nat_lt, nat_eq, List, [], ◌∷◌, ◌++◌, filter, sum_by, length, All}
 use Rattle.std.specs.List.{AllByRecursion}
 use Rattle.std.specs.Int.{div_ceil}
 use Rattle.prta_mass.specs.Unit.{unit}
 use Rattle.prta_mass.specs.Table.{Table, total}
-use Rattle.prta_sheet.specs.Sheet.{Task, task_at, hyperperiod}
-use Rattle.prta_sheet.specs.Job.{Job, jobs_before}
+use Rattle.prta_sheet.specs.Sheet.{Task, task_at, table_in, cycle_ticks, hyperperiod}
+use Rattle.prta_sheet.specs.Job.{Job, nth_job, jobs_before}
 use Rattle.prta_sheet.specs.Counts.{releases}
 use Rattle.prta_sheet.specs.Assignment.{Timed, assignments, weight_of, times_of, total_of}
 use Rattle.prta_sheet.specs.Machine.{goes_before, after, remaining}
@@ -40,40 +40,46 @@ weight_above limit table = sum_by (λ pair. pair.1) (filter (λ pair. nat_lt lim
 
 -- the first job of a task that stands alone on its sheet
 abbrev pub first_job_of : Task → Job
-first_job_of task = record { task = 0; number = 0; release = task.offset }
+first_job_of task = nth_job (task ∷ []) 0 0
 
 -- alone, the first job misses where its own time is above its deadline: the jobs after it multiply both weights by the same number
 abbrev pub FirstJobAlone : Type 0
 FirstJobAlone =
     (task : Task) → 0 < task.deadline →
     (rest : ℕ)
-    × (miss_weight (task ∷ []) (0 ∷ []) (first_job_of task) ≡ weight_above task.deadline task.table * rest)
-    × (chance_total (task ∷ []) (first_job_of task) ≡ total task.table * rest)
+    × (miss_weight (task ∷ []) (0 ∷ []) (first_job_of task) ≡ weight_above task.deadline (table_in task 0) * rest)
+    × (chance_total (task ∷ []) (first_job_of task) ≡ total (table_in task 0) * rest)
 
 -- so the quotient of the weight above the deadline by the table's total, rounded down and rounded up, is around the exact chance
 abbrev pub QuotientsAreAround : Type 0
 QuotientsAreAround =
-    (task : Task) → 0 < task.deadline → 0 < total task.table →
+    (task : Task) → 0 < task.deadline → 0 < total (table_in task 0) →
     IsAround (task ∷ []) (0 ∷ []) (first_job_of task)
-    (unit * weight_above task.deadline task.table / total task.table)
-    (div_ceil (unit * weight_above task.deadline task.table) (total task.table))
+    (unit * weight_above task.deadline (table_in task 0) / total (table_in task 0))
+    (div_ceil (unit * weight_above task.deadline (table_in task 0)) (total (table_in task 0)))
 
--- alone, and released before its period is over, it is the only job of the first hyperperiod
+-- alone, with one table and released before its period is over, it is the only job of the first hyperperiod
 abbrev pub OneJob : Type 0
-OneJob = (task : Task) → task.offset < task.period → jobs_before (task ∷ []) (hyperperiod (task ∷ [])) ≡ first_job_of task ∷ []
+OneJob = (task : Task) → task.offset < task.period → length task.cycle ≡ 1 → jobs_before (task ∷ []) (hyperperiod (task ∷ [])) ≡ first_job_of task ∷ []
 
--- a number is a positive multiple of every period, and no smaller one is
+-- a number is a positive multiple of the ticks of every cycle, and no smaller one is
 pub record IsLeastMultiple (tasks : List Task) (n : ℕ) : Type 0 where
   pub positive : 1 ≤ n
-  pub multiple : All (λ task. n % task.period ≡ 0) tasks
-  pub least : (m : ℕ) → 1 ≤ m → All (λ task. m % task.period ≡ 0) tasks → n ≤ m
+  pub multiple : All (λ task. n % cycle_ticks task ≡ 0) tasks
+  pub least : (m : ℕ) → 1 ≤ m → All (λ task. m % cycle_ticks task ≡ 0) tasks → n ≤ m
 
--- the hyperperiod is the least positive multiple of every period
+-- the hyperperiod is the least positive multiple of the ticks of every cycle
 abbrev pub HyperperiodIsLeast : Type 0
-HyperperiodIsLeast = (tasks : List Task) → All (λ task. 1 ≤ task.period) tasks → IsLeastMultiple tasks (hyperperiod tasks)
+HyperperiodIsLeast = (tasks : List Task) → All (λ task. 1 ≤ cycle_ticks task) tasks → IsLeastMultiple tasks (hyperperiod tasks)
 
 -- how many jobs of a task are released before a time
 abbrev pub ReleasesBefore : Type 0
 ReleasesBefore =
     (tasks : List Task) (i t : ℕ) → i < length tasks →
     length (filter (λ job. nat_eq job.task i) (jobs_before tasks t)) ≡ releases (task_at tasks i) t
+
+-- m hyperperiods later the task has released m * (H / period) jobs more, and the copy of a job has the job's table
+abbrev pub CopiesHaveTheirTable : Type 0
+CopiesHaveTheirTable =
+    (tasks : List Task) → All (λ task. 1 ≤ cycle_ticks task) tasks →
+    All (λ task. (k m : ℕ) → table_in task (k + m * (hyperperiod tasks / task.period)) ≡ table_in task k) tasks

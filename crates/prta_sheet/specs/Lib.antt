@@ -20,4 +20,5 @@ pub mod Stated
 pub mod Reading
 pub mod Refusal
 pub mod RefusedSheets
+pub mod Formats
 pub mod RoundTrip

@@ -1,7 +1,8 @@
 -- How a document is read once its conditions passed: as `Stated` says, but a number outside its range counts as none.
-use Rattle.std.specs.Prelude.{ℕ, ℤ, pos, negsuc, ◌&&◌, ◌^◌, nat_le, if◌then◌else◌, Option, Some, None, unwrap_or, List, [], ◌∷◌, codes}
+use Rattle.std.specs.Prelude.{ℕ, ℤ, pos, negsuc, Bool, ◌&&◌, ◌^◌, nat_le, nat_lt, if◌then◌else◌, Option, Some, None, unwrap_or, List, [], ◌∷◌, codes}
 use Rattle.toml.specs.Data.{Data, Items, no_items, item, Members, get_member, as_table, as_array, as_integer}
-use Rattle.prta_mass.specs.Table.{Table, or_else}
+use Rattle.prta_mass.specs.Table.{Table, or_else, total}
+use Rattle.prta_mass.specs.declared.table.TheConstants.{TOTAL_LIMIT}
 use Rattle.prta_mass.specs.declared.support.Support.{Support}
 use Rattle.prta_sheet.specs.declared.limits.TheConstants.{TIME_LIMIT}
 use Rattle.prta_sheet.specs.declared.settings.Settings.{Settings}
@@ -48,6 +49,10 @@ abbrev pub points_of : Option Items → Table
 points_of None = []
 points_of (Some items) = points_of_items items
 
+-- the weights of a table sum to too much
+abbrev pub is_heavy : Table → Bool
+is_heavy table = nat_lt TOTAL_LIMIT (total table)
+
 -- p of q
 abbrev pub share_in : Items → Option (ℕ × ℕ)
 share_in items = integers_in items >>= (λ pair. within 1 (10 ^ 18) pair.1 >>= (λ whole. within 0 whole pair.0 >>= (λ part. Some (part, whole))))
@@ -55,8 +60,18 @@ share_in items = integers_in items >>= (λ pair. within 1 (10 ^ 18) pair.1 >>= (
 abbrev pub share_of : Option Data → ℕ × ℕ
 share_of value = unwrap_or (value >>= as_array >>= share_in) (0, 1)
 
-abbrev pub read_points : Members → Table
-read_points table = points_of (array_at (codes "times") table)
+-- the tables of a cycle
+abbrev pub read_cycle_items : Items → List Table
+read_cycle_items no_items = []
+read_cycle_items (item first rest) = points_of (as_array first) ∷ read_cycle_items rest
+
+-- the cycle under `cycle`, or else that of the one table under `times`
+abbrev pub read_cycle_or : Table → Option Items → List Table
+read_cycle_or times None = times ∷ []
+read_cycle_or times (Some items) = read_cycle_items items
+
+abbrev pub read_cycle : Members → List Table
+read_cycle table = read_cycle_or (points_of (array_at (codes "times") table)) (array_at (codes "cycle") table)
 
 abbrev pub read_task : Members → Task
 read_task table = record {
@@ -64,7 +79,7 @@ read_task table = record {
   offset = number_in 0 999999 0 (codes "offset") table;
   period = number_in 1 1000000 1 (codes "period") table;
   deadline = number_in 1 1000000 1 (codes "deadline") table;
-  table = read_points table;
+  cycle = read_cycle table;
   allow = share_of (get_member (codes "allow") table);
 }
 
@@ -110,9 +125,9 @@ abbrev pub task_tables : Option Items → List Members
 task_tables None = []
 task_tables (Some items) = tables_of_items items
 
--- a task with another table in place of its own
+-- a task with another table in place of its cycle
 abbrev pub head_of : Task → Task
-head_of task = record task { table = (1, 1) ∷ [] }
+head_of task = record task { cycle = ((1, 1) ∷ []) ∷ [] }
 
 -- the conditions on the heads of the tasks, and then on the shapes of their tables
 abbrev pub head_faults : List Task → Option SheetFault

@@ -1,10 +1,10 @@
 -- The conditions on the settings and the tasks of a sheet.
-use Rattle.std.specs.Prelude.{ℕ, Bool, not, ◌+◌, ◌^◌, ◌&&◌, ◌||◌, nat_le, nat_lt, Option, Some, None, option_map, List, length, take, position, bytes_eq, if◌then◌else◌}
+use Rattle.std.specs.Prelude.{ℕ, Bool, not, ◌+◌, ◌^◌, ◌&&◌, ◌||◌, nat_le, nat_lt, nat_eq, Option, Some, None, option_map, List, length, take, position, bytes_eq, if◌then◌else◌}
 use Rattle.std.specs.List.{list_any, range_with_len}
 use Rattle.prta_mass.specs.Table.{Table, or_else, when, shape_fault, total}
 use Rattle.prta_mass.specs.declared.support.Support.{Support}
 use Rattle.prta_mass.specs.declared.table.TheConstants.{TOTAL_LIMIT}
-use Rattle.prta_sheet.specs.declared.limits.TheConstants.{TASK_LIMIT, TIME_LIMIT, PERIOD_LIMIT, JOB_LIMIT, WORK_LIMIT}
+use Rattle.prta_sheet.specs.declared.limits.TheConstants.{TASK_LIMIT, CYCLE_LIMIT, TIME_LIMIT, PERIOD_LIMIT, JOB_LIMIT, WORK_LIMIT}
 use Rattle.prta_sheet.specs.declared.settings.Settings.{Settings}
 use Rattle.prta_sheet.specs.declared.fault.Key.{Key}
 use Rattle.prta_sheet.specs.declared.fault.Key.TheVariants as key
@@ -34,8 +34,18 @@ settings_ranges settings =
     (or_else (in_range place.Top key.Turns 0 64 settings.turns)
     (support_ranges settings.support)))
 
-abbrev pub times_range : ℕ → Table → Option SheetFault
-times_range i table = when (list_any (λ pair. nat_lt TIME_LIMIT pair.0) table) (fault.OutOfRange (place.Task i) key.Times)
+-- the key that states a cycle: `times` where it has one table
+abbrev pub cycle_key : List Table → Key
+cycle_key cycle = if nat_eq (length cycle) 1 then key.Times else key.Cycle
+
+abbrev pub has_long_time : Table → Bool
+has_long_time table = list_any (λ pair. nat_lt TIME_LIMIT pair.0) table
+
+-- the number of tables, and then their times
+abbrev pub cycle_range : ℕ → List Table → Option SheetFault
+cycle_range i cycle =
+    or_else (in_range (place.Task i) key.Cycle 1 CYCLE_LIMIT (length cycle))
+    (when (list_any has_long_time cycle) (fault.OutOfRange (place.Task i) (cycle_key cycle)))
 
 abbrev pub allow_range : ℕ → ℕ × ℕ → Option SheetFault
 allow_range i allow = when (not ((nat_le 1 allow.1 && nat_le allow.1 (10 ^ 18)) && nat_le allow.0 allow.1)) (fault.OutOfRange (place.Task i) key.Allow)
@@ -45,7 +55,7 @@ task_ranges i task =
     or_else (in_range (place.Task i) key.Offset 0 999999 task.offset)
     (or_else (in_range (place.Task i) key.Period 1 1000000 task.period)
     (or_else (in_range (place.Task i) key.Deadline 1 1000000 task.deadline)
-    (or_else (times_range i task.table)
+    (or_else (cycle_range i task.cycle)
     (allow_range i task.allow))))
 
 abbrev pub part_ranges : Sheet → Option SheetFault
@@ -81,15 +91,19 @@ first_late_offset tasks = position (λ task. nat_le task.period task.offset) tas
 abbrev pub offset_fault : List Task → Option SheetFault
 offset_fault tasks = option_map fault.OffsetNotBelowPeriod (first_late_offset tasks)
 
--- the first five faults of a table
+-- the first five faults of a table, at the first table of the cycle that has one
 abbrev pub table_fault_at : List Task → ℕ → Option SheetFault
-table_fault_at tasks i = option_map (fault.BadTable i) (shape_fault (task_at tasks i).table)
+table_fault_at tasks i = option_map (fault.BadTable i) (first_of shape_fault (task_at tasks i).cycle)
 
 abbrev pub table_fault : List Task → Option SheetFault
 table_fault tasks = first_of (table_fault_at tasks) (range_with_len 0 (length tasks))
 
+abbrev pub is_heavy : Table → Bool
+is_heavy table = nat_lt TOTAL_LIMIT (total table)
+
+-- the first task that has a table of which the weights sum to too much
 abbrev pub total_fault : List Task → Option SheetFault
-total_fault tasks = option_map fault.TotalTooLarge (position (λ task. nat_lt TOTAL_LIMIT (total task.table)) tasks)
+total_fault tasks = option_map fault.TotalTooLarge (position (λ task. list_any is_heavy task.cycle) tasks)
 
 -- the first task whose deadline is above the cap less 2
 abbrev pub first_long_deadline : ℕ → List Task → Option ℕ

@@ -1,16 +1,11 @@
 -- The sheet that a document states, where its keys, kinds and ranges are right. What isn't needed and isn't stated has its default.
 use Rattle.std.specs.Prelude.{ℕ, pos, Option, Some, None, option_map, List, [], ◌∷◌, codes}
-use Rattle.toml.specs.Data.{Data, string, integer, array, Items, no_items, item, Members, get_member, as_table}
+use Rattle.toml.specs.Data.{Data, string, integer, array, Items, no_items, item, Members, get_member, as_table, as_array}
 use Rattle.prta_mass.specs.Table.{Table}
 use Rattle.prta_mass.specs.declared.support.Support.{Support}
 use Rattle.prta_sheet.specs.declared.settings.Settings.{Settings}
 use Rattle.prta_sheet.specs.Sheet.{Task, Sheet}
-use Rattle.prta_sheet.specs.Document.{document, table_at, array_at}
-
--- a whole number; another one where there is none
-abbrev pub number_or : ℕ → Option Data → ℕ
-number_or default (Some (integer (pos n))) = n
-number_or default _ = default
+use Rattle.prta_sheet.specs.Document.{document, number_or, table_at, array_at}
 
 abbrev pub text_of : Option Data → List ℕ
 text_of (Some (string bytes)) = bytes
@@ -28,6 +23,16 @@ abbrev pub pairs_of : Option Items → Table
 pairs_of None = []
 pairs_of (Some items) = pairs_of_items items
 
+-- the tables of a cycle
+abbrev pub cycle_of_items : Items → List Table
+cycle_of_items no_items = []
+cycle_of_items (item first rest) = pairs_of (as_array first) ∷ cycle_of_items rest
+
+-- the cycle under `cycle`, or else that of the one table under `times`
+abbrev pub cycle_or : Table → Option Items → List Table
+cycle_or times None = times ∷ []
+cycle_or times (Some items) = cycle_of_items items
+
 -- a needed number that is missing counts as 1: the document is refused
 abbrev pub stated_task : Members → Task
 stated_task table = record {
@@ -35,7 +40,7 @@ stated_task table = record {
   offset = number_or 0 (get_member (codes "offset") table);
   period = number_or 1 (get_member (codes "period") table);
   deadline = number_or 1 (get_member (codes "deadline") table);
-  table = pairs_of (array_at (codes "times") table);
+  cycle = cycle_or (pairs_of (array_at (codes "times") table)) (array_at (codes "cycle") table);
   allow = pair_or (0, 1) (get_member (codes "allow") table);
 }
 

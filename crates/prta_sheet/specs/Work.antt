@@ -1,5 +1,5 @@
 -- The work of a sheet: a stated number, without a unit.
-use Rattle.std.specs.Prelude.{ℕ, ◌+◌, ◌-◌, ◌*◌, ◌<◌, ◌≤◌, ◌&&◌, not, nat_eq, nat_lt, if◌then◌else◌, List, length, filter, sum_by}
+use Rattle.std.specs.Prelude.{ℕ, ◌+◌, ◌-◌, ◌*◌, ◌/◌, ◌%◌, ◌<◌, ◌≤◌, ◌&&◌, not, nat_eq, nat_lt, if◌then◌else◌, List, length, take, filter, sum_by}
 use Rattle.std.specs.List.{range_with_len}
 use Rattle.prta_sheet.specs.Sheet.{Task, Sheet, task_at}
 use Rattle.prta_sheet.specs.Job.{Job, table_of, deadline_of, jobs_before, analysed_jobs}
@@ -29,14 +29,20 @@ work sheet = sum_by (task_work sheet) (range_with_len 0 (length sheet.tasks))
 
 -- ---- in closed form
 
+-- the points of a task's first jobs, n of them
+abbrev pub points_of_first : Task → ℕ → ℕ
+points_of_first task n = n / length task.cycle * sum_by length task.cycle + sum_by length (take (n % length task.cycle) task.cycle)
+
 -- the points of the jobs that task m releases after one time and before another; none where it is task i
 abbrev pub points_of_other : List Task → ℕ → ℕ → ℕ → ℕ → ℕ
 points_of_other tasks i after until m =
-    if nat_eq m i then 0 else length (task_at tasks m).table * (releases (task_at tasks m) until - releases (task_at tasks m) (after + 1))
+    let task = task_at tasks m in
+    if nat_eq m i then 0 else points_of_first task (releases task until) - points_of_first task (releases task (after + 1))
 
 -- the ranges of a task in which no sum is too large
 pub record IsSmall (task : Task) : Type 0 where
   pub period : 1 ≤ task.period
   pub offset : task.offset < task.period
   pub deadline : task.deadline < 16384
-  pub points : length task.table ≤ 32
+  pub some_tables : 1 ≤ length task.cycle
+  pub few_tables : length task.cycle ≤ 16

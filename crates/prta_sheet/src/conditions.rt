@@ -1,7 +1,7 @@
 //! The conditions on a sheet's document: the key `format`, and in each of its tables the keys, their kinds and
 //! their ranges.
 
-ghost use Rattle.std.specs.Prelude.{◌≡◌, not, option_map, codes, string_bytes};
+ghost use Rattle.std.specs.Prelude.{◌≡◌, not, ◌&&◌, nat_le, length, option_map, codes, string_bytes, bytes_eq};
 ghost use Rattle.std.specs.List.{list_all};
 ghost use Rattle.std.specs.BTreeMap.{keys};
 ghost use Rattle.toml.specs.Data.{get_member, as_table};
@@ -10,13 +10,13 @@ ghost use Rattle.prta_mass.specs.Table.{when};
 ghost use Rattle.prta_sheet.specs.declared.fault.Place.TheVariants as place;
 ghost use Rattle.prta_sheet.specs.declared.fault.SheetFault.TheVariants as fault;
 ghost use Rattle.prta_sheet.specs.Document.{table_at, array_at};
-ghost use Rattle.prta_sheet.specs.Format.{top_rows, support_rows, task_rows, is_array_of, is_table, is_pair, is_pair_with, is_share, is_time_with_weight, is_from_to};
-ghost use Rattle.prta_sheet.specs.DocumentConditions.{is_listed, fails, format_fault, first_of, row_fault, rows_fault, fault_in, first_fault, document_fault, spot, task_spots, all_task_spots};
+ghost use Rattle.prta_sheet.specs.Format.{top_rows, support_rows, task_rows, tables_row, states_cycle, is_array_of, is_table, is_pair, is_pair_with, is_share, is_time_with_weight, is_from_to, is_times, is_cycle};
+ghost use Rattle.prta_sheet.specs.DocumentConditions.{is_listed, fails, format_of, format_fault, first_of, row_fault, rows_fault, fault_in, first_fault, document_fault, spot, task_spots, all_task_spots};
 ghost use Rattle.prta_sheet.specs.Rows.{kind_of, range_of, row_of};
 
-use crate::document::{array_at, integers_of, table_at, value_at};
+use crate::document::{array_at, integers_of, number_or, table_at, value_at};
 use crate::fault::{Key, Place, SheetFault};
-use crate::limits::TIME_LIMIT;
+use crate::limits::{CYCLE_LIMIT, TIME_LIMIT};
 use toml::value::Array;
 use toml::{Table, Value};
 
@@ -45,7 +45,9 @@ pub enum Form {
     /// An array of tables.
     Tables,
     /// An array of pairs of a time and a weight.
-    Points,
+    Times,
+    /// An array of such arrays.
+    Cycle,
     /// An array p, q that stands for p of q.
     Share,
 }
@@ -61,14 +63,19 @@ pub fn document_fault(document: &Table) -> Option<SheetFault>
         .or(first_fault(Condition::Range, document))
 }
 
-// The value of `format` is the integer 1.
+// The value of `format` is the integer 1 or 2.
 fn format_fault(document: &Table) -> Option<SheetFault>
     ensures { result ≡ format_fault (table_view document.now) }
 {
-    match value_at(document, "format") {
-        Some(value) if value.as_integer() == Some(1) => None,
-        _ => Some(SheetFault::Format),
-    }
+    let format = format_of(document);
+    (format != 1 && format != 2).then_some(SheetFault::Format)
+}
+
+// The number of the format; 0 where there is none.
+fn format_of(document: &Table) -> u64
+    ensures { result ≡ format_of (table_view document.now) }
+{
+    number_or(document, "format", 0)
 }
 
 // The first table that a condition refuses.
@@ -81,7 +88,7 @@ fn first_fault(condition: Condition, document: &Table) -> Option<SheetFault>
 }
 
 fn support_fault(condition: Condition, document: &Table) -> Option<SheetFault>
-    ensures { result ≡ first_of (fault_in condition) (spot place.Support support_rows (table_at (codes "support") (table_view document.now))) }
+    ensures { result ≡ first_of (fault_in condition) (spot place.Support (λ table. support_rows) (table_at (codes "support") (table_view document.now))) }
 {
     match table_at(document, "support") {
         Some(table) => support_table_fault(condition, table),
@@ -90,33 +97,40 @@ fn support_fault(condition: Condition, document: &Table) -> Option<SheetFault>
 }
 
 fn tasks_fault(condition: Condition, document: &Table) -> Option<SheetFault>
-    ensures { result ≡ first_of (fault_in condition) (all_task_spots (array_at (codes "task") (table_view document.now))) }
+    ensures { result ≡ first_of (fault_in condition) (all_task_spots (format_of (table_view document.now)) (array_at (codes "task") (table_view document.now))) }
 {
     match array_at(document, "task") {
-        Some(items) => items_fault(condition, items),
+        Some(items) => items_fault(condition, format_of(document), items),
         None => None,
     }
 }
 
 // The first table among the elements of `task` that a condition refuses.
-fn items_fault(condition: Condition, items: &Array) -> Option<SheetFault>
-    ensures { result ≡ first_of (fault_in condition) (task_spots 0 (array_view items.now)) }
+fn items_fault(condition: Condition, format: u64, items: &Array) -> Option<SheetFault>
+    ensures { result ≡ first_of (fault_in condition) (task_spots format 0 (array_view items.now)) }
 {
     for i in 0..items.len() {
-        if let Some(fault) = item_fault(condition, i, &items[i]) {
+        if let Some(fault) = item_fault(condition, format, i, &items[i]) {
             return Some(fault);
         }
     }
     None
 }
 
-fn item_fault(condition: Condition, i: usize, item: &Value) -> Option<SheetFault>
-    ensures { result ≡ first_of (fault_in condition) (spot (place.Task i) task_rows (as_table (view item.now))) }
+fn item_fault(condition: Condition, format: u64, i: usize, item: &Value) -> Option<SheetFault>
+    ensures { result ≡ first_of (fault_in condition) (spot (place.Task i) (λ table. task_rows (states_cycle format table)) (as_table (view item.now))) }
 {
     match item.as_table() {
-        Some(table) => task_table_fault(condition, i, table),
+        Some(table) => task_table_fault(condition, states_cycle(format, table), i, table),
         None => None,
     }
+}
+
+// In format 2 a task may have the key `cycle` in place of `times`.
+fn states_cycle(format: u64, table: &Table) -> bool
+    ensures { result ≡ states_cycle format (table_view table.now) }
+{
+    format == 2 && value_at(table, "cycle").is_some()
 }
 
 // What refuses the top.
@@ -140,7 +154,7 @@ fn top_row_fault(condition: Condition, table: &Table) -> Option<SheetFault>
         table,
     };
     tested
-        .row("format", Key::Format, true, Form::Integer(1, 1))
+        .row("format", Key::Format, true, Form::Integer(1, 2))
         .or(tested.row("cap", Key::Cap, false, Form::Integer(3, 16_384)))
         .or(tested.row(
             "hyperperiods",
@@ -180,21 +194,26 @@ fn support_row_fault(condition: Condition, table: &Table) -> Option<SheetFault>
         .or(tested.row("step", Key::Step, true, Form::Integer(1, 16_384)))
 }
 
-// What refuses the table of the i-th element of `task`.
+// What refuses the table of the i-th element of `task`, which states a cycle or doesn't.
 #[tactic(auto, using(crate::proofs::Keys::list_all_keys))]
-fn task_table_fault(condition: Condition, i: usize, table: &Table) -> Option<SheetFault>
-    ensures { result ≡ fault_in condition (record { at = place.Task i; rows = task_rows; table = table_view table.now }) }
+fn task_table_fault(
+    condition: Condition,
+    cycle: bool,
+    i: usize,
+    table: &Table,
+) -> Option<SheetFault>
+    ensures { result ≡ fault_in condition (record { at = place.Task i; rows = task_rows cycle; table = table_view table.now }) }
 {
     match condition {
-        Condition::Listed => unlisted(Place::Task(i), all_are_task_keys(table)),
+        Condition::Listed => unlisted(Place::Task(i), all_are_task_keys(cycle, table)),
         Condition::Needed | Condition::Kind | Condition::Range => task_row_fault(
-            condition, i, table,
+            condition, cycle, i, table,
         ),
     }
 }
 
-fn task_row_fault(condition: Condition, i: usize, table: &Table) -> Option<SheetFault>
-    ensures { result ≡ rows_fault condition (record { at = place.Task i; rows = task_rows; table = table_view table.now }) }
+fn task_row_fault(condition: Condition, cycle: bool, i: usize, table: &Table) -> Option<SheetFault>
+    ensures { result ≡ rows_fault condition (record { at = place.Task i; rows = task_rows cycle; table = table_view table.now }) }
 {
     let at = Place::Task(i);
     let tested = Tested {
@@ -207,7 +226,7 @@ fn task_row_fault(condition: Condition, i: usize, table: &Table) -> Option<Sheet
         .or(tested.row("offset", Key::Offset, false, Form::Integer(0, 999_999)))
         .or(tested.row("period", Key::Period, true, Form::Integer(1, 1_000_000)))
         .or(tested.row("deadline", Key::Deadline, true, Form::Integer(1, 1_000_000)))
-        .or(tested.row("times", Key::Times, true, Form::Points))
+        .or(tested.tables_row(cycle))
         .or(tested.row("allow", Key::Allow, false, Form::Share))
 }
 
@@ -244,17 +263,27 @@ fn is_support_key(key: &str) -> bool
     key == "fine" || key == "step"
 }
 
-fn all_are_task_keys(table: &Table) -> bool
-    ensures { result ≡ list_all (λ key. is_listed task_rows (string_bytes key)) (keys table.now) }
+fn all_are_task_keys(cycle: bool, table: &Table) -> bool
+    ensures { result ≡ list_all (λ key. is_listed (task_rows cycle) (string_bytes key)) (keys table.now) }
 {
-    table.keys().all(|key| is_task_key(key.as_str()))
+    table.keys().all(|key| is_task_key(cycle, key.as_str()))
 }
 
-fn is_task_key(key: &str) -> bool
-    ensures { result ≡ is_listed task_rows key.now }
+fn is_task_key(cycle: bool, key: &str) -> bool
+    ensures { result ≡ is_listed (task_rows cycle) key.now }
 {
     (key == "name" || key == "offset" || key == "period")
-        || (key == "deadline" || key == "times" || key == "allow")
+        || (key == "deadline" || is_tables_key(cycle, key) || key == "allow")
+}
+
+fn is_tables_key(cycle: bool, key: &str) -> bool
+    ensures { result ≡ bytes_eq key.now (tables_row cycle).text }
+{
+    if cycle {
+        key == "cycle"
+    } else {
+        key == "times"
+    }
 }
 
 // ---- rows
@@ -286,6 +315,17 @@ impl<'a> Tested<'a> {
             }
         }
     }
+
+    // What refuses the tables of a task that states a cycle, or doesn't.
+    fn tables_row(&self, cycle: bool) -> Option<SheetFault>
+        ensures { result ≡ row_fault self.now.condition self.now.at (tables_row cycle) (get_member (tables_row cycle).text (table_view self.now.table.now)) }
+    {
+        if cycle {
+            self.row("cycle", Key::Cycle, true, Form::Cycle)
+        } else {
+            self.row("times", Key::Times, true, Form::Times)
+        }
+    }
 }
 
 fn is_of_other_kind(form: Form, value: Option<&Value>) -> bool
@@ -314,7 +354,8 @@ fn has_kind(form: Form, value: &Value) -> bool
         Form::Text => value.is_str(),
         Form::Table => value.is_table(),
         Form::Tables => are_tables(value),
-        Form::Points => are_pairs(value),
+        Form::Times => are_pairs(value),
+        Form::Cycle => are_arrays_of_pairs(value),
         Form::Share => is_pair(value),
     }
 }
@@ -325,7 +366,8 @@ fn is_in_range(form: Form, value: &Value) -> bool
     match form {
         Form::Integer(low, high) => is_from_to(low, high, value),
         Form::Text | Form::Table | Form::Tables => true,
-        Form::Points => are_points(value),
+        Form::Times => are_points(value),
+        Form::Cycle => is_cycle(value),
         Form::Share => is_share(value),
     }
 }
@@ -371,6 +413,22 @@ fn each_is_pair(items: &Array) -> bool
     items.iter().all(|item| is_pair(item))
 }
 
+// An array of arrays of pairs of integers.
+fn are_arrays_of_pairs(value: &Value) -> bool
+    ensures { result ≡ is_array_of (is_array_of is_pair) (view value.now) }
+{
+    match value.as_array() {
+        Some(items) => each_has_pairs(items),
+        None => false,
+    }
+}
+
+fn each_has_pairs(items: &Array) -> bool
+    ensures { result ≡ list_all (λ v. is_array_of is_pair (view v)) items.now.items }
+{
+    items.iter().all(|item| are_pairs(item))
+}
+
 #[tactic(auto, using(crate::proofs::Items::is_pair_with_integers))]
 fn is_pair(value: &Value) -> bool
     ensures { result ≡ is_pair (view value.now) }
@@ -380,7 +438,7 @@ fn is_pair(value: &Value) -> bool
 
 // An array of pairs in the ranges of a time and a weight.
 fn are_points(value: &Value) -> bool
-    ensures { result ≡ is_array_of (is_pair_with is_time_with_weight) (view value.now) }
+    ensures { result ≡ is_times (view value.now) }
 {
     match value.as_array() {
         Some(items) => each_is_point(items),
@@ -402,6 +460,34 @@ fn is_point(value: &Value) -> bool
         Some((time, weight)) => 0 <= time && time <= TIME_LIMIT as i64 && 0 <= weight,
         None => false,
     }
+}
+
+// An array of 1 to 16 such arrays.
+fn is_cycle(value: &Value) -> bool
+    ensures { result ≡ is_cycle (view value.now) }
+{
+    match value.as_array() {
+        Some(items) => are_tables_of_cycle(items),
+        None => false,
+    }
+}
+
+fn are_tables_of_cycle(items: &Array) -> bool
+    ensures { result ≡ ((nat_le 1 (length items.now.items) && nat_le (length items.now.items) 16) && list_all (λ v. is_times (view v)) items.now.items) }
+{
+    are_few(items) && each_has_points(items)
+}
+
+fn are_few(items: &Array) -> bool
+    ensures { result ≡ (nat_le 1 (length items.now.items) && nat_le (length items.now.items) 16) }
+{
+    1 <= items.len() && items.len() <= CYCLE_LIMIT
+}
+
+fn each_has_points(items: &Array) -> bool
+    ensures { result ≡ list_all (λ v. is_times (view v)) items.now.items }
+{
+    items.iter().all(|item| are_points(item))
 }
 
 // An array p, q in the ranges of an allowance.

@@ -11,6 +11,7 @@ use crate::task::Task;
 pub(crate) fn count_jobs(tasks: &[Task], hyperperiods: u32, hyperperiod: u64) -> u64
     requires few { length tasks.now ≤ TASK_LIMIT }
     requires offsets { All (λ task. task.offset < task.period) tasks.now }
+    requires cycles { All (λ task. 1 ≤ length task.cycle) tasks.now }
     requires hyperperiods { hyperperiods ≤ 64 }
     requires hyperperiod { hyperperiod ≡ hyperperiod_of tasks.now }
     requires short { hyperperiod ≤ PERIOD_LIMIT }

@@ -3,7 +3,7 @@
 ghost use Rattle.std.specs.Prelude.{◌≡◌, option_map};
 ghost use Rattle.toml.specs.Data.{get_member};
 ghost use Rattle.toml.specs.View.{view, table_view, array_view};
-ghost use Rattle.prta_sheet.specs.Document.{table_at, array_at};
+ghost use Rattle.prta_sheet.specs.Document.{number_or, table_at, array_at};
 ghost use Rattle.prta_sheet.specs.Stated.{text_of};
 ghost use Rattle.prta_sheet.specs.Reading.{within, natural, number_in, integers_in, integers_of, point_in, point_of, share_in, share_of};
 
@@ -35,6 +35,19 @@ pub fn array_at<'a>(table: &'a Table, key: &str) -> Option<&'a Array>
     match value_at(table, key) {
         Some(value) => value.as_array(),
         None => None,
+    }
+}
+
+// The whole number at a key; another one where there is none.
+pub fn number_or(table: &Table, key: &str, default: u64) -> u64
+    ensures { result ≡ number_or default (get_member key.now (table_view table.now)) }
+{
+    match value_at(table, key) {
+        Some(value) => match value.as_integer() {
+            Some(n) => natural(n).unwrap_or(default),
+            None => default,
+        },
+        None => default,
     }
 }
 

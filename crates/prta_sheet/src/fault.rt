@@ -20,7 +20,7 @@ pub enum Place {
 /// A key of the format.
 #[derive(Clone, Copy, Debug, PartialEq, Eq)]
 pub enum Key {
-    /// The number of the format, 1.
+    /// The number of the format, 1 or 2.
     Format,
     /// The number of cells of a list of chances.
     Cap,
@@ -46,6 +46,8 @@ pub enum Key {
     Deadline,
     /// The execution times of a task, in ticks, with their weights.
     Times,
+    /// The tables of a task that its jobs have in turn, each as under `times`.
+    Cycle,
     /// The allowance p of q of a task: a job may miss with a chance of at most p / q.
     Allow,
 }
@@ -57,7 +59,7 @@ pub enum SheetFault {
     TooLong,
     #[error("the file is no TOML")]
     NotToml,
-    #[error("there is no key format with the value 1")]
+    #[error("there is no key format with the value 1 or 2")]
     Format,
     #[error("an unknown key")]
     UnknownKey(Place),
@@ -77,7 +79,7 @@ pub enum SheetFault {
     OffsetNotBelowPeriod(usize),
     #[error("the times of task {0}: {1}")]
     BadTable(usize, TableFault),
-    #[error("the weights of task {0} sum to more than 4294967296")]
+    #[error("the weights of task {0} sum to more than 281474976710656")]
     TotalTooLarge(usize),
     #[error("the deadline of task {0} is above the cap less 2")]
     DeadlineNotBelowCap(usize),

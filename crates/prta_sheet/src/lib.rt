@@ -19,15 +19,18 @@ mod work;
 
 pub use fault::{Key, Place, SheetFault};
 pub use limits::{
-    JOB_LIMIT, NAME_LIMIT, PERIOD_LIMIT, SHEET_LIMIT, TASK_LIMIT, TIME_LIMIT, WORK_LIMIT,
+    CYCLE_LIMIT, JOB_LIMIT, NAME_LIMIT, PERIOD_LIMIT, SHEET_LIMIT, TASK_LIMIT, TIME_LIMIT,
+    WORK_LIMIT,
 };
 pub use making::make_sheet;
 pub use model::{
-    first_job_alone, hyperperiod_is_least, independent_job, one_job, quotients_are_around,
-    releases_before, served_first, stated_limits, sums_over_assignments, worked_values,
+    copies_have_their_table, first_job_alone, hyperperiod_is_least, independent_job, one_job,
+    quotients_are_around, releases_before, served_first, stated_limits, sums_over_assignments,
+    worked_values,
 };
-pub use reading::{read_sheet, refused_sheets};
+pub use reading::{read_sheet, refused_sheets, second_format_is_read};
 pub use settings::Settings;
 pub use sheet::Sheet;
 pub use task::Task;
 pub use text::{accepted_are_statable, canonical_is_read, sheet_text, text_states_sheet};
+pub use work::releases;

@@ -9,6 +9,9 @@ pub const TASK_LIMIT: usize = 12;
 /// A task's name has at most this many bytes.
 pub const NAME_LIMIT: usize = 24;
 
+/// A task's cycle has at most this many tables.
+pub const CYCLE_LIMIT: usize = 16;
+
 /// An execution time is at most this many ticks.
 pub const TIME_LIMIT: u32 = 1_000_000;
 

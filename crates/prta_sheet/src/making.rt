@@ -1,29 +1,32 @@
 //! The conditions on the parts of a sheet, each over all tasks before the next.
 
-ghost use Rattle.std.specs.Prelude.{◌≡◌, ◌≤◌, ◌<◌, nat_lt, Some, None, length, All, IsOk, IfOk, IfErr, IfSome};
+ghost use Rattle.std.specs.Prelude.{◌≡◌, ◌≤◌, ◌<◌, nat_lt, Some, None, false, length, All, IsOk, IfOk, IfErr, IfSome};
 ghost use Rattle.std.specs.List.{list_all, list_any, range_with_len};
 ghost use Rattle.prta_mass.specs.Table.{or_else, fault_of};
-ghost use Rattle.prta_sheet.specs.Sheet.{task_at, hyperperiod as hyperperiod_of, least_common_multiple};
+ghost use Rattle.prta_sheet.specs.Sheet.{task_at, cycle_ticks, hyperperiod as hyperperiod_of, least_common_multiple};
 ghost use Rattle.prta_sheet.specs.DocumentConditions.{first_of};
-ghost use Rattle.prta_sheet.specs.SheetConditions.{in_range, support_ranges, settings_ranges, times_range, allow_range, task_ranges, part_ranges, task_count, has_name, is_bad_at, first_bad_name, name_fault_at, name_fault, first_late_offset, offset_fault, first_long_deadline, deadline_fault, part_fault};
+ghost use Rattle.prta_sheet.specs.SheetConditions.{in_range, support_ranges, settings_ranges, cycle_key, has_long_time, cycle_range, allow_range, task_ranges, part_ranges, task_count, has_name, is_bad_at, first_bad_name, name_fault_at, name_fault, first_late_offset, offset_fault, first_long_deadline, deadline_fault, part_fault};
 ghost use Rattle.prta_sheet.specs.Accepted.{is_good_name, is_name_byte};
 
 use crate::count::count_jobs;
 use crate::fault::{Key, Place, SheetFault};
-use crate::limits::{JOB_LIMIT, NAME_LIMIT, PERIOD_LIMIT, TASK_LIMIT, TIME_LIMIT, WORK_LIMIT};
+use crate::limits::{
+    CYCLE_LIMIT, JOB_LIMIT, NAME_LIMIT, PERIOD_LIMIT, TASK_LIMIT, TIME_LIMIT, WORK_LIMIT,
+};
 use crate::settings::Settings;
 use crate::sheet::Sheet;
 use crate::task::Task;
 use crate::work::work_of;
-use prta_mass::{Support, faultless_pairs};
+use prta_mass::{Support, TimeTable, faultless_pairs};
 
 /// Makes a sheet of just these settings and tasks, from highest priority to lowest. It is refused with the first of
 /// these conditions that fails, each tested over all tasks before the next:
 ///
 /// - Each number is in its range: a cap of 3 to 16,384, 1 to 64 hyperperiods, 0 to 64 turns, a support's `fine` of 0
 ///   to 16,383 and `step` of 1 to 16,384; and of each task, before the next task, an offset of 0 to 999,999, a period
-///   and a deadline of 1 to 1,000,000, times of at most `TIME_LIMIT`, and an allowance p of q with q of 1 to 10^18
-///   and p of at most q.
+///   and a deadline of 1 to 1,000,000, a cycle of 1 to `CYCLE_LIMIT` tables, times of at most `TIME_LIMIT` (told by
+///   the key `Times` where the cycle has one table, else by `Cycle`), and an allowance p of q with q of 1 to 10^18 and
+///   p of at most q.
 /// - There are 1 to `TASK_LIMIT` tasks.
 /// - Each name is of 1 to `NAME_LIMIT` letters, digits, `_` and `-`, and is that of no earlier task.
 /// - Each offset is below its period. (The tables were tested when they were made.)
@@ -122,16 +125,43 @@ fn settings_ranges(settings: Settings) -> Option<SheetFault>
 }
 
 fn has_long_time(points: &[(u32, u64)]) -> bool
-    ensures { result ≡ list_any (λ point. nat_lt TIME_LIMIT point.0) points.now }
+    ensures { result ≡ has_long_time points.now }
 {
     points.iter().any(|point| point.0 > TIME_LIMIT)
 }
 
-fn times_range(i: usize, points: &[(u32, u64)]) -> Option<SheetFault>
-    ensures { result ≡ times_range i points.now }
+// One of the tables has a time above the limit. Tables that were made have no fault.
+fn has_long_times(tables: &[TimeTable]) -> bool
+    ensures value { result ≡ list_any has_long_time tables.now }
+    ensures made { result ≡ false → All (λ table. fault_of table ≡ None) tables.now }
 {
-    if has_long_time(points) {
-        return Some(SheetFault::OutOfRange(Place::Task(i), Key::Times));
+    for table in tables {
+        if has_long_time(table.points()) {
+            return true;
+        }
+    }
+    false
+}
+
+fn cycle_key(cycle: &[TimeTable]) -> Key
+    ensures { result ≡ cycle_key cycle.now }
+{
+    if cycle.len() == 1 {
+        Key::Times
+    } else {
+        Key::Cycle
+    }
+}
+
+fn cycle_range(i: usize, cycle: &[TimeTable]) -> Option<SheetFault>
+    ensures range { result ≡ cycle_range i cycle.now }
+    ensures made { result ≡ None → All (λ table. fault_of table ≡ None) cycle.now }
+{
+    if cycle.is_empty() || CYCLE_LIMIT < cycle.len() {
+        return Some(SheetFault::OutOfRange(Place::Task(i), Key::Cycle));
+    }
+    if has_long_times(cycle) {
+        return Some(SheetFault::OutOfRange(Place::Task(i), cycle_key(cycle)));
     }
     None
 }
@@ -145,23 +175,22 @@ fn allow_range(i: usize, allow: (u64, u64)) -> Option<SheetFault>
     None
 }
 
-// The first range that task i is not in. Its table is one that was made, so it has no fault.
+// The first range that task i is not in. Its tables were made, so they have no fault.
 fn task_ranges(i: usize, task: &Task) -> Option<SheetFault>
     ensures ranges { result ≡ task_ranges i task.now }
-    ensures table { fault_of task.now.table ≡ None }
+    ensures tables { result ≡ None → All (λ table. fault_of table ≡ None) task.now.cycle }
 {
     let at = Place::Task(i);
-    let points = task.table().points();
     in_range(at, Key::Offset, 0, 999_999, task.offset())
         .or(in_range(at, Key::Period, 1, 1_000_000, task.period()))
         .or(in_range(at, Key::Deadline, 1, 1_000_000, task.deadline()))
-        .or(times_range(i, points))
+        .or(cycle_range(i, task.cycle()))
         .or(allow_range(i, task.allow()))
 }
 
 fn first_task_ranges(tasks: &[Task]) -> Option<SheetFault>
     ensures ranges { result ≡ first_of (λ i. task_ranges i (task_at tasks.now i)) (range_with_len 0 (length tasks.now)) }
-    ensures tables { result ≡ None → All (λ task. fault_of task.table ≡ None) tasks.now }
+    ensures tables { result ≡ None → All (λ task. All (λ table. fault_of table ≡ None) task.cycle) tasks.now }
 {
     for i in 0..tasks.len() {
         if let Some(fault) = task_ranges(i, &tasks[i]) {
@@ -173,7 +202,7 @@ fn first_task_ranges(tasks: &[Task]) -> Option<SheetFault>
 
 fn part_ranges(settings: Settings, tasks: &[Task]) -> Option<SheetFault>
     ensures ranges { result ≡ part_ranges (record { settings = settings; tasks = tasks.now }) }
-    ensures tables { result ≡ None → All (λ task. fault_of task.table ≡ None) tasks.now }
+    ensures tables { result ≡ None → All (λ task. All (λ table. fault_of table ≡ None) task.cycle) tasks.now }
 {
     if let Some(fault) = settings_ranges(settings) {
         return Some(fault);
@@ -290,12 +319,14 @@ fn deadline_fault(cap: u32, tasks: &[Task]) -> Option<SheetFault>
 fn joint_multiple(a: u64, b: u64) -> Option<u64>
     requires start { 1 ≤ a }
     requires limit { a ≤ PERIOD_LIMIT }
-    requires period { 1 ≤ b }
-    requires short { b ≤ PERIOD_LIMIT }
+    requires some { 1 ≤ b }
     ensures found { IfSome result (λ n. n ≡ least_common_multiple a b) }
     ensures few { IfSome result (λ n. n ≤ PERIOD_LIMIT) }
     ensures above { result ≡ None → PERIOD_LIMIT < least_common_multiple a b }
 {
+    if b > PERIOD_LIMIT as u64 {
+        return None;
+    }
     for k in 0..b {
         let n = a * (1 + k);
         if n % b == 0 {
@@ -309,17 +340,25 @@ fn joint_multiple(a: u64, b: u64) -> Option<u64>
     None
 }
 
+// The ticks until a task's releases and tables repeat.
+fn cycle_ticks(task: &Task) -> u64
+    requires { length task.now.cycle ≤ CYCLE_LIMIT }
+    ensures { result ≡ cycle_ticks task.now }
+{
+    task.period() as u64 * task.cycle().len() as u64
+}
+
 // The hyperperiod, where it is at most the limit.
 fn hyperperiod_within(tasks: &[Task]) -> Option<u64>
-    requires periods { All (λ task. 1 ≤ task.period) tasks.now }
-    requires short { All (λ task. task.period ≤ PERIOD_LIMIT) tasks.now }
+    requires some { All (λ task. 1 ≤ cycle_ticks task) tasks.now }
+    requires few { All (λ task. length task.cycle ≤ CYCLE_LIMIT) tasks.now }
     ensures found { IfSome result (λ n. n ≡ hyperperiod_of tasks.now) }
     ensures few { IfSome result (λ n. n ≤ PERIOD_LIMIT) }
     ensures above { result ≡ None → PERIOD_LIMIT < hyperperiod_of tasks.now }
 {
     let mut hyperperiod = 1;
     for task in tasks {
-        match joint_multiple(hyperperiod, task.period() as u64) {
+        match joint_multiple(hyperperiod, cycle_ticks(task)) {
             Some(next) => hyperperiod = next,
             None => return None,
         }

@@ -2,7 +2,7 @@
 
 ghost use Rattle.prta_sheet.specs.Limits.{StatedLimits};
 ghost use Rattle.prta_sheet.specs.Worked.{WorkedValues};
-ghost use Rattle.prta_sheet.specs.Laws.{SumsOverAssignments, IndependentJob, ServedFirst, FirstJobAlone, QuotientsAreAround, OneJob, HyperperiodIsLeast, ReleasesBefore};
+ghost use Rattle.prta_sheet.specs.Laws.{SumsOverAssignments, IndependentJob, ServedFirst, FirstJobAlone, QuotientsAreAround, OneJob, HyperperiodIsLeast, CopiesHaveTheirTable, ReleasesBefore};
 
 /// The definitions of the model on small sheets: chances of a miss, finishes and the machine's trace.
 pub fn worked_values()
@@ -34,14 +34,20 @@ pub fn quotients_are_around()
     ensures { QuotientsAreAround }
 {}
 
-/// A task alone releases just its first job in the first hyperperiod.
+/// A task alone with one table releases just its first job in the first hyperperiod.
 pub fn one_job()
     ensures { OneJob }
 {}
 
-/// The hyperperiod is positive, every period divides it, and no smaller positive number has both.
+/// The hyperperiod is positive, every task's period times the length of its cycle divides it, and no smaller positive
+/// number has both.
 pub fn hyperperiod_is_least()
     ensures { HyperperiodIsLeast }
+{}
+
+/// The copy of a job in a later hyperperiod has the job's table.
+pub fn copies_have_their_table()
+    ensures { CopiesHaveTheirTable }
 {}
 
 /// How many jobs of a task are released before a time, in closed form.

@@ -1,15 +1,17 @@
 //! Sheets from bytes.
 
-ghost use Rattle.std.specs.Prelude.{◌≡◌, ◌≢◌, None, Some, true, false, nat_lt, IfOk, IfErr, IsOk, map, codes, [], ◌∷◌};
+ghost use Rattle.std.specs.Prelude.{◌≡◌, ◌≢◌, None, Some, true, false, IfOk, IfErr, IsOk, option_map, map, codes, [], ◌∷◌};
+ghost use Rattle.std.specs.List.{list_any};
 ghost use Rattle.toml.specs.View.{table_view, array_view};
-ghost use Rattle.prta_mass.specs.Table.{shape_fault, total};
-ghost use Rattle.prta_mass.specs.declared.table.TheConstants.{TOTAL_LIMIT};
+ghost use Rattle.prta_mass.specs.Table.{shape_fault};
 ghost use Rattle.prta_sheet.specs.Document.{document, table_at, array_at};
+ghost use Rattle.prta_sheet.specs.DocumentConditions.{document_fault, first_of};
 ghost use Rattle.prta_sheet.specs.SheetConditions.{part_ranges, table_fault, total_fault, later_fault};
 ghost use Rattle.prta_sheet.specs.Stated.{stated, sheet_stated};
-ghost use Rattle.prta_sheet.specs.Reading.{read, read_settings, read_support, read_points, read_task, points_of_items, tables_of_items, task_tables, head_of, first_faults};
+ghost use Rattle.prta_sheet.specs.Reading.{read, read_settings, read_support, read_cycle, read_cycle_items, read_task, points_of, points_of_items, is_heavy, tables_of_items, task_tables, head_of, first_faults};
 ghost use Rattle.prta_sheet.specs.Refusal.{document_refusal, refusal};
 ghost use Rattle.prta_sheet.specs.RefusedSheets.{RefusedSheets};
+ghost use Rattle.prta_sheet.specs.Formats.{SecondFormatIsRead};
 
 use crate::conditions::document_fault;
 use crate::document::{array_at, number_in, point_of, share_at, table_at, text_at};
@@ -66,8 +68,9 @@ fn sheet_of(alloc: Global, document: &Table) -> Result<Sheet, SheetFault>
     read(alloc, document)
 }
 
-// The sheet as it is read: what is out of its range counts as absent.
+// The sheet as it is read, of a document that passes its conditions.
 fn read(alloc: Global, document: &Table) -> Result<Sheet, SheetFault>
+    requires { document_fault (table_view document.now) ≡ None }
     ensures read { IfOk result (λ sheet. sheet ≡ read (table_view document.now)) }
     ensures accepted { IsOk result → later_fault (read (table_view document.now)) ≡ None }
     ensures refused { IfErr result (λ fault. fault ≢ SheetFault.NoMemory → later_fault (read (table_view document.now)) ≡ Some fault) }
@@ -100,7 +103,8 @@ fn sheet_of_tables(
 }
 
 // What refuses the tasks before the sums of their weights: first their heads, then the shapes of their tables. Tasks
-// can't be made of tables that are refused, so the heads are tested on tasks that have another table each.
+// can't be made of tables that are refused, so the heads are tested on tasks that have another table in place of their
+// cycle.
 fn first_faults(alloc: Global, tables: &[&Table]) -> Result<Option<SheetFault>, NoMemory>
     ensures { IfOk result (λ fault. fault ≡ first_faults (map (λ t. read_task (table_view t.now)) tables.now)) }
 {
@@ -154,30 +158,33 @@ fn tables_of<'a>(alloc: Global, items: &'a Array) -> Result<Vec<&'a Table>, NoMe
     Ok(tables)
 }
 
-// The tasks, each with another table in place of its own.
+// The tasks, each with another table in place of its cycle.
 fn heads_of(alloc: Global, tables: &[&Table]) -> Result<Vec<Task>, NoMemory>
     ensures { IfOk result (λ heads. heads.items ≡ map (λ t. head_of (read_task (table_view t.now))) tables.now) }
 {
     let mut heads = Vec::new(alloc);
     for table in tables {
-        let times = one_point(alloc)?;
-        heads.push(task_of(alloc, table, times)?)?;
+        let cycle = one_point(alloc)?;
+        heads.push(task_of(alloc, table, cycle)?)?;
     }
     Ok(heads)
 }
 
-fn one_point(alloc: Global) -> Result<TimeTable, NoMemory>
-    ensures { IfOk result (λ table. table ≡ (1, 1) ∷ []) }
+// A cycle of one table with one point.
+fn one_point(alloc: Global) -> Result<Vec<TimeTable>, NoMemory>
+    ensures { IfOk result (λ cycle. cycle.items ≡ ((1, 1) ∷ []) ∷ []) }
 {
+    let mut cycle = Vec::new(alloc);
     match TimeTable::new(alloc, &[(1, 1)]) {
-        Ok(table) => Ok(table),
-        Err(_) => Err(NoMemory),
+        Ok(table) => cycle.push(table)?,
+        Err(_) => return Err(NoMemory),
     }
+    Ok(cycle)
 }
 
-// The task of a table, with these times.
-fn task_of(alloc: Global, table: &Table, times: TimeTable) -> Result<Task, NoMemory>
-    ensures { IfOk result (λ task. task ≡ record (read_task (table_view table.now)) { table = times }) }
+// The task of a table, with this cycle.
+fn task_of(alloc: Global, table: &Table, cycle: Vec<TimeTable>) -> Result<Task, NoMemory>
+    ensures { IfOk result (λ task. task ≡ record (read_task (table_view table.now)) { cycle = cycle.items }) }
 {
     Task::new(
         alloc,
@@ -185,16 +192,44 @@ fn task_of(alloc: Global, table: &Table, times: TimeTable) -> Result<Task, NoMem
         number_in(table, "offset", 0, 999_999, 0),
         number_in(table, "period", 1, 1_000_000, 1),
         number_in(table, "deadline", 1, 1_000_000, 1),
-        times,
+        cycle,
         share_at(table, "allow"),
     )
 }
 
-// The times of a table with their weights.
-fn points_of(alloc: Global, table: &Table) -> Result<Vec<(u32, u64)>, NoMemory>
-    ensures { IfOk result (λ points. points.items ≡ read_points (table_view table.now)) }
+// The tables of a task, each as its points: those under `cycle`, or else the one under `times`.
+fn cycle_of(alloc: Global, table: &Table) -> Result<Vec<Vec<(u32, u64)>>, NoMemory>
+    ensures { IfOk result (λ cycle. map (λ points. points.items) cycle.items ≡ read_cycle (table_view table.now)) }
 {
-    match array_at(table, "times") {
+    match array_at(table, "cycle") {
+        Some(items) => cycle_of_items(alloc, items),
+        None => one_table(alloc, table),
+    }
+}
+
+fn one_table(alloc: Global, table: &Table) -> Result<Vec<Vec<(u32, u64)>>, NoMemory>
+    ensures { IfOk result (λ cycle. map (λ points. points.items) cycle.items ≡ points_of (array_at (codes "times") (table_view table.now)) ∷ []) }
+{
+    let mut cycle = Vec::new(alloc);
+    cycle.push(points_of(alloc, array_at(table, "times"))?)?;
+    Ok(cycle)
+}
+
+fn cycle_of_items(alloc: Global, items: &Array) -> Result<Vec<Vec<(u32, u64)>>, NoMemory>
+    ensures { IfOk result (λ cycle. map (λ points. points.items) cycle.items ≡ read_cycle_items (array_view items.now)) }
+{
+    let mut cycle = Vec::new(alloc);
+    for item in items {
+        cycle.push(points_of(alloc, item.as_array())?)?;
+    }
+    Ok(cycle)
+}
+
+// The times of an array with their weights.
+fn points_of(alloc: Global, items: Option<&Array>) -> Result<Vec<(u32, u64)>, NoMemory>
+    ensures { IfOk result (λ points. points.items ≡ points_of (option_map (λ v. array_view v.now) items.entry)) }
+{
+    match items {
         Some(items) => points_of_items(alloc, items),
         None => Ok(Vec::new(alloc)),
     }
@@ -210,17 +245,28 @@ fn points_of_items(alloc: Global, items: &Array) -> Result<Vec<(u32, u64)>, NoMe
     Ok(points)
 }
 
-// The first table of a task that its shape refuses.
+// The first fault of the shapes of the tables of the tasks, in order.
 fn first_table_fault(alloc: Global, tables: &[&Table]) -> Result<Option<SheetFault>, NoMemory>
     ensures { IfOk result (λ fault. fault ≡ table_fault (map (λ t. read_task (table_view t.now)) tables.now)) }
 {
     for i in 0..tables.len() {
-        let points = points_of(alloc, tables[i])?;
-        if let Some(fault) = shape_fault(&points) {
+        let cycle = cycle_of(alloc, tables[i])?;
+        if let Some(fault) = first_shape_fault(&cycle) {
             return Ok(Some(SheetFault::BadTable(i, fault)));
         }
     }
     Ok(None)
+}
+
+fn first_shape_fault(cycle: &[Vec<(u32, u64)>]) -> Option<TableFault>
+    ensures { result ≡ first_of shape_fault (map (λ points. points.items) cycle.now) }
+{
+    for points in cycle {
+        if let Some(fault) = shape_fault(points) {
+            return Some(fault);
+        }
+    }
+    None
 }
 
 // The tasks, or the first whose weights sum to too much.
@@ -244,30 +290,53 @@ fn tasks_of(alloc: Global, tables: &[&Table]) -> Result<Vec<Task>, SheetFault>
     Ok(tasks)
 }
 
-// The i-th task, unless its weights sum to too much.
+// The i-th task, unless the weights of a table sum to too much.
 fn weighed_task(alloc: Global, i: usize, table: &Table) -> Result<Task, SheetFault>
-    requires shape { shape_fault (read_points (table_view table.now)) ≡ None }
+    requires shapes { first_of shape_fault (read_cycle (table_view table.now)) ≡ None }
     ensures made { IfOk result (λ task. task ≡ read_task (table_view table.now)) }
-    ensures light { IsOk result → nat_lt TOTAL_LIMIT (total (read_points (table_view table.now))) ≡ false }
+    ensures light { IsOk result → list_any is_heavy (read_cycle (table_view table.now)) ≡ false }
     ensures fault { IfErr result (λ fault. fault ≢ SheetFault.NoMemory → fault ≡ SheetFault.TotalTooLarge i) }
-    ensures heavy { IfErr result (λ fault. fault ≢ SheetFault.NoMemory → nat_lt TOTAL_LIMIT (total (read_points (table_view table.now))) ≡ true) }
+    ensures heavy { IfErr result (λ fault. fault ≢ SheetFault.NoMemory → list_any is_heavy (read_cycle (table_view table.now)) ≡ true) }
 {
-    let points = match points_of(alloc, table) {
+    let points = match cycle_of(alloc, table) {
         Ok(points) => points,
         Err(_) => return Err(SheetFault::NoMemory),
     };
-    let times = match TimeTable::new(alloc, &points) {
-        Ok(times) => times,
+    let cycle = match tables_made(alloc, &points) {
+        Ok(cycle) => cycle,
         Err(TableFault::NoMemory) => return Err(SheetFault::NoMemory),
         Err(_) => return Err(SheetFault::TotalTooLarge(i)),
     };
-    match task_of(alloc, table, times) {
+    match task_of(alloc, table, cycle) {
         Ok(task) => Ok(task),
         Err(_) => Err(SheetFault::NoMemory),
     }
 }
 
+// The tables of these points, unless the weights of one sum to too much.
+fn tables_made(alloc: Global, cycle: &[Vec<(u32, u64)>]) -> Result<Vec<TimeTable>, TableFault>
+    requires shapes { first_of shape_fault (map (λ points. points.items) cycle.now) ≡ None }
+    ensures made { IfOk result (λ tables. tables.items ≡ map (λ points. points.items) cycle.now) }
+    ensures light { IsOk result → list_any is_heavy (map (λ points. points.items) cycle.now) ≡ false }
+    ensures heavy { IfErr result (λ fault. fault ≢ TableFault.NoMemory → list_any is_heavy (map (λ points. points.items) cycle.now) ≡ true) }
+{
+    let mut tables = Vec::new(alloc);
+    for points in cycle {
+        let table = TimeTable::new(alloc, points)?;
+        match tables.push(table) {
+            Ok(()) => {}
+            Err(_) => return Err(TableFault::NoMemory),
+        }
+    }
+    Ok(tables)
+}
+
 /// What refuses worked documents: the definitions of the conditions, computed.
 pub fn refused_sheets()
     ensures { RefusedSheets }
+{}
+
+/// A document that is accepted in format 1 is accepted with 2 as the number of its format, and states the same sheet.
+pub fn second_format_is_read()
+    ensures { SecondFormatIsRead }
 {}

@@ -58,7 +58,7 @@ impl Sheet {
         self.settings.cap as usize
     }
 
-    /// The least common multiple of the periods, in ticks.
+    /// The least common multiple, over the tasks, of the period times the number of tables of the cycle, in ticks.
     pub fn hyperperiod(&self) -> u64
         ensures hyperperiod { result ≡ hyperperiod_of self.now.tasks }
         ensures accepted { IsAccepted self.now }

@@ -1,6 +1,7 @@
 //! Tasks.
 
-ghost use Rattle.std.specs.Prelude.{◌≡◌, IfOk};
+ghost use Rattle.std.specs.Prelude.{◌≡◌, ◌≤◌, length, IfOk};
+ghost use Rattle.prta_sheet.specs.Sheet.{table_in};
 
 use prta_mass::{NoMemory, TimeTable};
 use std::alloc::Global;
@@ -13,7 +14,7 @@ pub struct Task {
     offset: u32,
     period: u32,
     deadline: u32,
-    table: TimeTable,
+    cycle: Vec<TimeTable>,
     allow: (u64, u64),
 }
 
@@ -23,22 +24,23 @@ impl Model for Task {
 
     ghost Value = { TaskParts };
 
-    ghost view = { λ t. record { name = string_bytes t.name; offset = t.offset; period = t.period; deadline = t.deadline; table = t.table; allow = t.allow } };
+    ghost view = { λ t. record { name = string_bytes t.name; offset = t.offset; period = t.period; deadline = t.deadline; cycle = t.cycle.items; allow = t.allow } };
 }
 
 impl Task {
-    /// Makes a task of just these parts and checks nothing. Times are in ticks; a job is released at
-    /// `offset + k * period`, its deadline is relative to that; `allow` is the allowance p of q.
+    /// Makes a task of just these parts and checks nothing. Times are in ticks; job k is released at
+    /// `offset + k * period`, its deadline is relative to that, its execution times are those of the table at place k
+    /// modulo the length of `cycle`; `allow` is the allowance p of q. Where memory is wanting the tables are dropped.
     pub fn new(
         alloc: Global,
         name: &str,
         offset: u32,
         period: u32,
         deadline: u32,
-        table: TimeTable,
+        cycle: Vec<TimeTable>,
         allow: (u64, u64),
     ) -> Result<Task, NoMemory>
-        ensures parts { IfOk result (λ task. task ≡ record { name = name.now; offset = offset; period = period; deadline = deadline; table = table; allow = allow }) }
+        ensures parts { IfOk result (λ task. task ≡ record { name = name.now; offset = offset; period = period; deadline = deadline; cycle = cycle.items; allow = allow }) }
     {
         let name = String::from_str(alloc, name)?;
         Ok(Task {
@@ -46,7 +48,7 @@ impl Task {
             offset,
             period,
             deadline,
-            table,
+            cycle,
             allow,
         })
     }
@@ -55,14 +57,14 @@ impl Task {
     pub fn copy(&self, alloc: Global) -> Result<Task, NoMemory>
         ensures { IfOk result (λ task. task ≡ self.now) }
     {
-        let table = self.table.copy(alloc)?;
+        let cycle = copies_of(alloc, &self.cycle)?;
         Task::new(
             alloc,
             self.name.as_str(),
             self.offset,
             self.period,
             self.deadline,
-            table,
+            cycle,
             self.allow,
         )
     }
@@ -95,11 +97,20 @@ impl Task {
         self.deadline
     }
 
-    /// The execution times with their weights.
-    pub fn table(&self) -> &TimeTable
-        ensures { result.now ≡ self.now.table }
+    /// The tables of execution times that the jobs have in turn.
+    pub fn cycle(&self) -> &[TimeTable]
+        ensures { result.now ≡ self.now.cycle }
     {
-        &self.table
+        &self.cycle
+    }
+
+    /// The execution times, with their weights, of the job of this number: the table of the cycle with that number
+    /// modulo the cycle's length.
+    pub fn table(&self, number: u32) -> &TimeTable
+        requires { 1 ≤ length self.now.cycle }
+        ensures { result.now ≡ table_in self.now number }
+    {
+        &self.cycle[number as usize % self.cycle.len()]
     }
 
     /// The allowance p of q: a job may miss with a chance of at most p / q.
@@ -108,4 +119,15 @@ impl Task {
     {
         self.allow
     }
+}
+
+// Equal tables, in order.
+fn copies_of(alloc: Global, tables: &[TimeTable]) -> Result<Vec<TimeTable>, NoMemory>
+    ensures { IfOk result (λ copies. copies.items ≡ tables.now) }
+{
+    let mut copies = Vec::new(alloc);
+    for table in tables {
+        copies.push(table.copy(alloc)?)?;
+    }
+    Ok(copies)
 }

@@ -1,16 +1,17 @@
 //! The canonical text of a sheet.
 
-ghost use Rattle.std.specs.Prelude.{◌≡◌, ◌++◌, None, Some, IfOk, OnOk, decimal, flat_map};
+ghost use Rattle.std.specs.Prelude.{◌≡◌, ◌++◌, None, Some, IfOk, OnOk, decimal, flat_map, length, nat_eq};
+ghost use Rattle.std.specs.List.{list_all};
 ghost use Rattle.prta_sheet.specs.Stated.{sheet_stated};
 ghost use Rattle.prta_sheet.specs.Refusal.{refusal};
-ghost use Rattle.prta_sheet.specs.Canonical.{number_line, support_line, support_text, settings_text, name_line, pair_text, next_pair_text, pairs_text, times_line, allow_line, task_text, canonical_text, TextStatesSheet, AcceptedAreStatable};
+ghost use Rattle.prta_sheet.specs.Canonical.{number_line, support_line, support_text, canonical_format, settings_text, name_line, pair_text, next_pair_text, pairs_text, times_line, table_text, next_table_text, cycle_line, tables_line, allow_line, task_text, canonical_text, TextStatesSheet, AcceptedAreStatable};
 ghost use Rattle.prta_sheet.specs.RoundTrip.{CanonicalIsRead};
 
 use crate::settings::Settings;
 use crate::sheet::Sheet;
 use crate::task::Task;
 use itoa::Buffer;
-use prta_mass::{NoMemory, Support, faultless_pairs};
+use prta_mass::{NoMemory, Support, TimeTable, faultless_pairs};
 use std::alloc::Global;
 
 /// The text that has all keys of a sheet, the defaults too. Reading it gives an equal sheet.
@@ -21,17 +22,30 @@ pub fn sheet_text(alloc: Global, sheet: &Sheet) -> Result<Vec<u8>, NoMemory>
 {
     canonical_is_read();
     let mut text = Vec::new(alloc);
-    push_settings(&mut text, sheet.settings())?;
+    push_settings(&mut text, canonical_format(sheet.tasks()), sheet.settings())?;
     for task in sheet.tasks() {
         push_task(&mut text, task)?;
     }
     Ok(text)
 }
 
-fn push_settings(text: &mut Vec<u8>, settings: Settings) -> Result<(), NoMemory>
-    ensures { OnOk result (text.new.items ≡ text.old.items ++ settings_text settings) }
+// The number of the format that the tasks need.
+fn canonical_format(tasks: &[Task]) -> u64
+    ensures { result ≡ canonical_format tasks.now }
 {
-    push_number_line(text, b"format", 1)?;
+    if each_has_one_table(tasks) { 1 } else { 2 }
+}
+
+fn each_has_one_table(tasks: &[Task]) -> bool
+    ensures { result ≡ list_all (λ task. nat_eq (length task.cycle) 1) tasks.now }
+{
+    tasks.iter().all(|task| task.cycle().len() == 1)
+}
+
+fn push_settings(text: &mut Vec<u8>, format: u64, settings: Settings) -> Result<(), NoMemory>
+    ensures { OnOk result (text.new.items ≡ text.old.items ++ settings_text format settings) }
+{
+    push_number_line(text, b"format", format)?;
     push_number_line(text, b"cap", settings.cap as u64)?;
     push_number_line(text, b"hyperperiods", settings.hyperperiods as u64)?;
     push_number_line(text, b"turns", settings.turns as u64)?;
@@ -66,7 +80,7 @@ fn push_task(text: &mut Vec<u8>, task: &Task) -> Result<(), NoMemory>
     push_number_line(text, b"offset", task.offset() as u64)?;
     push_number_line(text, b"period", task.period() as u64)?;
     push_number_line(text, b"deadline", task.deadline() as u64)?;
-    push_times(text, task.table().points())?;
+    push_tables(text, task.cycle())?;
     push_allow(text, task.allow())
 }
 
@@ -77,6 +91,46 @@ fn push_name(text: &mut Vec<u8>, name: &str) -> Result<(), NoMemory>
     push(text, b"name = \"")?;
     push(text, name.as_bytes())?;
     push(text, b"\"\n")
+}
+
+// A cycle of one table stands under `times`.
+fn push_tables(text: &mut Vec<u8>, cycle: &[TimeTable]) -> Result<(), NoMemory>
+    ensures { OnOk result (text.new.items ≡ text.old.items ++ tables_line cycle.now) }
+{
+    match cycle {
+        [] => Ok(()),
+        [times] => push_times(text, times.points()),
+        [first, rest @ ..] => push_cycle(text, first, rest),
+    }
+}
+
+#[tactic(auto, unfolding(crate::specs::Canonical::cycle_line))]
+fn push_cycle(text: &mut Vec<u8>, first: &TimeTable, rest: &[TimeTable]) -> Result<(), NoMemory>
+    ensures { OnOk result (text.new.items ≡ text.old.items ++ cycle_line first.now rest.now) }
+{
+    push(text, b"cycle = [")?;
+    push_table(text, first.points())?;
+    push_next_tables(text, rest)?;
+    push(text, b"]\n")
+}
+
+fn push_next_tables(text: &mut Vec<u8>, tables: &[TimeTable]) -> Result<(), NoMemory>
+    ensures { OnOk result (text.new.items ≡ text.old.items ++ flat_map next_table_text tables.now) }
+{
+    for table in tables {
+        push(text, b", ")?;
+        push_table(text, table.points())?;
+    }
+    Ok(())
+}
+
+#[tactic(auto, unfolding(crate::specs::Canonical::table_text))]
+fn push_table(text: &mut Vec<u8>, times: &[(u32, u64)]) -> Result<(), NoMemory>
+    ensures { OnOk result (text.new.items ≡ text.old.items ++ table_text times.now) }
+{
+    push(text, b"[")?;
+    push_pairs(text, times)?;
+    push(text, b"]")
 }
 
 #[tactic(auto, unfolding(crate::specs::Canonical::times_line))]

@@ -4,15 +4,16 @@ ghost use Rattle.std.specs.Prelude.{◌≡◌, ◌+◌, ◌-◌, ◌*◌, ◌/�
 ghost use Rattle.prta_sheet.specs.Sheet.{task_at, hyperperiod as hyperperiod_of};
 ghost use Rattle.prta_sheet.specs.Job.{jobs_before, nth_job};
 ghost use Rattle.prta_sheet.specs.Counts.{releases, all_jobs};
-ghost use Rattle.prta_sheet.specs.Work.{points_of, points_of_other, job_work, work, IsSmall};
+ghost use Rattle.prta_sheet.specs.Work.{points_of, points_of_first, points_of_other, job_work, work, IsSmall};
 ghost use Rattle.prta_sheet.specs.Accepted.{AreSettings, IsTask};
 
-use crate::limits::{JOB_LIMIT, PERIOD_LIMIT, TASK_LIMIT};
+use crate::limits::{CYCLE_LIMIT, JOB_LIMIT, PERIOD_LIMIT, TASK_LIMIT};
 use crate::settings::Settings;
 use crate::task::Task;
+use prta_mass::TimeTable;
 
-// How often a task releases before a time.
-fn releases(task: &Task, time: u64) -> u64
+/// How often a task releases before a time, in ticks.
+pub fn releases(task: &Task, time: u64) -> u64
     requires { 1 ≤ task.now.period }
     ensures value { result ≡ releases task.now time }
     ensures bound { result ≤ time }
@@ -23,6 +24,33 @@ fn releases(task: &Task, time: u64) -> u64
     } else {
         (time - offset - 1) / task.period() as u64 + 1
     }
+}
+
+// How many times the tables have.
+fn points_of_tables(tables: &[TimeTable]) -> u64
+    requires { length tables.now ≤ CYCLE_LIMIT }
+    ensures value { result ≡ sum_by length tables.now }
+    ensures bound { result ≤ 32 * length tables.now }
+{
+    let mut points = 0;
+    for table in tables {
+        points += table.points().len() as u64;
+    }
+    points
+}
+
+// The points of a task's first jobs, n of them.
+fn points_of_first(task: &Task, n: u64) -> u64
+    requires some { 1 ≤ length task.now.cycle }
+    requires few { length task.now.cycle ≤ CYCLE_LIMIT }
+    requires jobs { n ≤ 2 ^ 27 }
+    ensures value { result ≡ points_of_first task.now n }
+    ensures bound { result ≤ 32 * n }
+{
+    let cycle = task.cycle();
+    let size = cycle.len() as u64;
+    let rest = points_of_tables(&cycle[..(n % size) as usize]);
+    n / size * points_of_tables(cycle) + rest
 }
 
 // The points of the jobs that task m releases after one time and before another; none for task i.
@@ -38,8 +66,8 @@ fn points_of_other(tasks: &[Task], i: usize, after: u64, until: u64, m: usize) -
         return 0;
     }
     let other = &tasks[m];
-    let jobs = releases(other, until).saturating_sub(releases(other, after + 1));
-    other.table().points().len() as u64 * jobs
+    let before = points_of_first(other, releases(other, after + 1));
+    points_of_first(other, releases(other, until)).saturating_sub(before)
 }
 
 // The points of the jobs of other tasks than i, released after one time and before another.
@@ -102,7 +130,7 @@ fn points_of_all(tasks: &[Task], horizon: u64) -> u64
 {
     let mut points = 0;
     for task in tasks {
-        points += horizon / task.period() as u64 * task.table().points().len() as u64;
+        points += points_of_first(task, horizon / task.period() as u64);
     }
     points
 }

@@ -1,20 +1,19 @@
 -- Of two jobs before a time one goes before the other, in every order of the tasks.
-use Rattle.std.proofs.Common.{◌≡◌, ℕ, ◌<◌, true, false, ◌&&◌, ◌||◌, nat_lt, nat_eq, List, length, get_or, AllPairs, ap, arith, inl, inr}
+use Rattle.std.proofs.Common.{◌≡◌, ℕ, ◌<◌, true, ◌&&◌, ◌||◌, nat_lt, nat_eq, List, length, get_or, ap, arith, inl, inr}
 use Rattle.std.specs.List.{AllByRecursion as Each}
-use Rattle.std.proofs.lemmas.Bool.{both_ways, cases_eq, cases_order}
+use Rattle.std.proofs.lemmas.Bool.{cases_eq, cases_order}
 use Rattle.std.proofs.lemmas.Bool.Decides.{nat_tests}
 use Rattle.std.proofs.lemmas.List.Elements.{recursion_from_All}
 use Rattle.prta_sheet.specs.Sheet.{Task}
 use Rattle.prta_sheet.specs.Job.{Job, jobs_before}
-use Rattle.prta_sheet.specs.Machine.{place, goes_before}
+use Rattle.prta_sheet.specs.Machine.{place}
 use Rattle.prta_jobs.specs.Laws.{OrdersHavePlaces, JobsAreBefore}
 use Rattle.prta_jobs.specs.Permutation.{is_order}
-use Rattle.prta_ticksim.specs.Times.{job_at}
 use Rattle.prta_ticksim.specs.Serving.{AreApart}
-use Rattle.prta_ticksim.proofs.Each.{Pairs, Pairs-weaker, AllPairs-from_pairs}
+use Rattle.prta_ticksim.proofs.Each.{Pairs, Pairs-weaker}
 use Rattle.prta_ticksim.proofs.JobOrder.{InOrder, before_in_order}
 use Rattle.prta_ticksim.proofs.Places.{same_place, place_within}
-use Rattle.prta_ticksim.proofs.FirstPending.{Goes, Apart}
+use Rattle.prta_ticksim.proofs.GoesBefore.{Goes, Apart, apart_by_places}
 
 module _ (order : List ℕ) where
   higher_goes : (a b : Job) → place order a.task < place order b.task → Goes order a b
@@ -56,14 +55,4 @@ module _ (have_places : OrdersHavePlaces) (are_before : JobsAreBefore) (tasks : 
   placed = recursion_from_All _ jobs (λ k d low. place_within have_places (length tasks) order is (get_or jobs k d).task (are_before tasks t k d low).task)
 
   pub apart_in_order : AreApart order jobs
-  apart_in_order i j low_i low_j not_i not_j =
-      let apart : AllPairs (Apart order) jobs = AllPairs-from_pairs (Apart order) jobs (all_apart order jobs placed (before_in_order tasks t)) in
-      elim (cases_order i j) [
-        | inl here ↦ here
-        | inr (inl before) ↦ absurd (neither (job_at jobs i) (job_at jobs j) (apart i j _ before low_j) not_i not_j)
-        | inr (inr after) ↦ absurd (neither (job_at jobs j) (job_at jobs i) (apart j i _ after low_i) not_j not_i)
-      ]
-    where
-      neither : (a b : Job) → Apart order a b → goes_before order a b ≡ false → goes_before order b a ≡ false → ⊥
-      neither a b (inl goes) not_a not_b = both_ways (goes_before order a b) not_a goes
-      neither a b (inr goes) not_a not_b = both_ways (goes_before order b a) not_b goes
+  apart_in_order = apart_by_places order jobs (all_apart order jobs placed (before_in_order tasks t))

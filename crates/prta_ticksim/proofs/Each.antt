@@ -1,9 +1,9 @@
 -- What holds of each element of a list, and of each with every later one.
-use Rattle.std.proofs.Common.{◌≡◌, Bool, true, false, cond, List, [], ◌∷◌, ◌++◌, map, filter, AllPairs, refl, ap, ◌∙◌, arith}
-use Rattle.std.specs.List.{AllByRecursion as Each, list_all}
+use Rattle.std.proofs.Common.{◌≡◌, Bool, true, false, cond, List, [], ◌∷◌, ◌++◌, map, filter, AllPairs, refl, ap, ap₂, arith}
+use Rattle.std.specs.List.{AllByRecursion as Each}
+use Rattle.std.proofs.lemmas.Bool.{both_ways}
 use Rattle.std.proofs.lemmas.List.Elements.{All-from_recursion, recursion_from_All, All-weaker, All-filter, filter_passes}
 use Rattle.std.proofs.lemmas.List.Kept.{AllPairs-cons}
-use Rattle.std.proofs.lemmas.List.Sums.{list_all-from_AllPass}
 
 -- of each element and each later one
 abbrev pub Pairs : {X : Type 0} → (X → X → Type 0) → List X → Type 0
@@ -14,10 +14,6 @@ module _ {X : Type 0} where
   pub Each-append : (P : X → Type 0) (xs ys : List X) → Each P xs → Each P ys → Each P (xs ++ ys)
   Each-append P [] ys p q = q
   Each-append P (x ∷ xs) ys p q = (p.0, Each-append P xs ys p.1 q)
-
-  pub Each-right : (P : X → Type 0) (xs ys : List X) → Each P (xs ++ ys) → Each P ys
-  Each-right P [] ys p = p
-  Each-right P (x ∷ xs) ys p = Each-right P xs ys p.1
 
   pub Each-weaker : (P Q : X → Type 0) → ((x : X) → P x → Q x) → (xs : List X) → Each P xs → Each Q xs
   Each-weaker P Q f [] p = tt
@@ -61,13 +57,32 @@ module _ {X : Type 0} where
   Pairs-filter p R [] h = tt
   Pairs-filter p R (x ∷ xs) h = elim (p x) as (λ b. Pairs R (cond b (x ∷ filter p xs) (filter p xs))) [ true ↦ (Each-filter p (R x) xs h.0, Pairs-filter p R xs h.1) | false ↦ Pairs-filter p R xs h.1 ]
 
-  pub map_stays : (f : X → X) (xs : List X) → Each (λ x. f x ≡ x) xs → map f xs ≡ xs
-  map_stays f [] h = refl
-  map_stays f (x ∷ xs) h = ap (λ y. y ∷ map f xs) h.0 ∙ ap (λ ys. x ∷ ys) (map_stays f xs h.1)
-
   pub filter_none : (p : X → Bool) (xs : List X) → Each (λ x. p x ≡ false) xs → filter p xs ≡ []
   filter_none p [] h = refl
   filter_none p (x ∷ xs) h = let fails : p x ≡ false = h.0 in rw fails (filter_none p xs h.1)
 
-  pub list_all-each : (p : X → Bool) (xs : List X) → Each (λ x. p x ≡ true) xs → list_all p xs ≡ true
-  list_all-each p xs h = list_all-from_AllPass p xs (All-from_recursion (λ x. p x ≡ true) xs h)
+  pub filter_all : (p : X → Bool) (xs : List X) → Each (λ x. p x ≡ true) xs → filter p xs ≡ xs
+  filter_all p [] h = refl
+  filter_all p (x ∷ xs) h = let passes : p x ≡ true = h.0 in rw passes (ap (λ ys. x ∷ ys) (filter_all p xs h.1))
+
+  -- of two tests in turn, where what passes the outer one passes the inner one, the outer one decides
+  pub filter_inner : (p q : X → Bool) → ((x : X) → p x ≡ true → q x ≡ true) → (xs : List X) → filter p (filter q xs) ≡ filter p xs
+  filter_inner p q implies [] = refl
+  filter_inner p q implies (x ∷ xs) = by_flags (q x) (p x) refl refl (filter_inner p q implies xs)
+    where
+      by_flags : (b c : Bool) → q x ≡ b → p x ≡ c → filter p (filter q xs) ≡ filter p xs → filter p (cond (q x) (x ∷ filter q xs) (filter q xs)) ≡ cond (p x) (x ∷ filter p xs) (filter p xs)
+      by_flags true true e f rest = rw (e, f) (ap (λ ys. x ∷ ys) rest)
+      by_flags true false e f rest = rw (e, f) rest
+      by_flags false true e f rest = absurd (both_ways (q x) e (implies x f))
+      by_flags false false e f rest = rw (e, f) rest
+
+  -- a change that a test doesn't see can come after the test
+  pub filter_map : (p : X → Bool) (f g : X → X) → ((x : X) → f x ≡ g x) → ((x : X) → p (g x) ≡ p x) → (xs : List X) → map f (filter p xs) ≡ filter p (map g xs)
+  filter_map p f g same unseen [] = refl
+  filter_map p f g same unseen (x ∷ xs) =
+      let rest : map f (filter p xs) ≡ filter p (map g xs) = filter_map p f g same unseen xs in
+      rw (unseen x)
+      (elim (p x) as (λ b. map f (cond b (x ∷ filter p xs) (filter p xs)) ≡ cond b (g x ∷ filter p (map g xs)) (filter p (map g xs))) [
+        | true ↦ ap₂ (λ (y : X) (ys : List X). y ∷ ys) (same x) rest
+        | false ↦ rest
+      ])

@@ -8,7 +8,7 @@ use Rattle.std.proofs.lemmas.List.Sums.{sum_by-cons}
 use Rattle.prta_sheet.specs.Job.{Job}
 use Rattle.prta_sheet.specs.Assignment.{Timed}
 use Rattle.prta_sheet.specs.Machine.{place, goes_before, after, is_job, remaining, IsFinish}
-use Rattle.prta_ticksim.specs.ScheduleToBacklog.{jobs_of}
+use Rattle.prta_sheet.specs.Weights.{jobs_of}
 use Rattle.prta_ticksim.specs.Times.{timed_jobs, job_at}
 use Rattle.prta_ticksim.specs.Serving.{AreApart}
 use Rattle.prta_ticksim.proofs.Each.{filter_none}

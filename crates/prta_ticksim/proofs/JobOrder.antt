@@ -12,14 +12,14 @@ InOrder a b = (a.release ≤ b.release) × (a.task ≡ b.task → a.release < b.
 -- ---- at one time
 
 -- released at t, by a task from i on
-abbrev IsReleased : ℕ → ℕ → Job → Type 0
+abbrev pub IsReleased : ℕ → ℕ → Job → Type 0
 IsReleased i t job = (i ≤ job.task) × (job.release ≡ t)
 
 one_released : (P : Job → Type 0) (i : ℕ) (task : Task) (t : ℕ) → P (record { task = i; number = (t - task.offset) / task.period; release = t }) → Each P (released_by i task t)
 one_released P i task t h =
     elim (is_release task t) as (λ b. Each P (if b then (record { task = i; number = (t - task.offset) / task.period; release = t } ∷ []) else [])) [ true ↦ (h, tt) | false ↦ tt ]
 
-released_at_is : (i : ℕ) (tasks : List Task) (t : ℕ) → Each (IsReleased i t) (released_at i tasks t)
+pub released_at_is : (i : ℕ) (tasks : List Task) (t : ℕ) → Each (IsReleased i t) (released_at i tasks t)
 released_at_is i [] t = tt
 released_at_is i (task ∷ tasks) t =
     Each-append _ (released_by i task t) (released_at (i + 1) tasks t)

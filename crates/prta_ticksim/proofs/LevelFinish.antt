@@ -7,9 +7,11 @@ use Rattle.prta_sheet.specs.Job.{Job}
 use Rattle.prta_sheet.specs.Assignment.{Timed}
 use Rattle.prta_sheet.specs.Machine.{place, remaining, IsFinish}
 use Rattle.prta_jobs.specs.Backlog.{level_jobs, jobs_above, released_until, released_after, backlog_at, delayed, finish_by_backlog}
-use Rattle.prta_ticksim.specs.ScheduleToBacklog.{jobs_of}
+use Rattle.prta_sheet.specs.Weights.{jobs_of}
 use Rattle.prta_ticksim.proofs.Each.{Pairs, Each_passes, Pairs-weaker, Pairs-from_map, Pairs-filter}
+use Rattle.prta_ticksim.specs.Serving.{AreApart}
 use Rattle.prta_ticksim.proofs.JobOrder.{InOrder}
+use Rattle.prta_ticksim.proofs.GoesBefore.{apart_by_places}
 use Rattle.prta_ticksim.proofs.Analysed.{all_apart}
 use Rattle.prta_ticksim.proofs.TimeOf.{time_of, at, time_of-same, time_of-filter}
 use Rattle.prta_ticksim.proofs.BacklogByTick.{by_tick, by_tick-same, by_tick_is_by_release, ByRelease, any}
@@ -17,6 +19,9 @@ use Rattle.prta_ticksim.proofs.Delays.{IsDelayed, delayed_is}
 use Rattle.prta_ticksim.proofs.OwnFinish.{up_to, own_before, own_at_end}
 
 module _ (order : List ℕ) (start : List Timed) (in_order : Pairs InOrder (jobs_of start)) (ordered : Each (λ job. place order job.task < length order) (jobs_of start)) where
+  apart : AreApart order (jobs_of start)
+  apart = apart_by_places order (jobs_of start) (all_apart order (jobs_of start) ordered in_order)
+
   by_release : Pairs ByRelease start
   by_release = Pairs-from_map (λ (a b : Job). a.release ≤ b.release) (λ e. e.job) start (Pairs-weaker (λ (job : Job). place order job.task < length order) InOrder _ (λ a b p q o. o.0) (jobs_of start) ordered in_order)
 
@@ -63,6 +68,6 @@ module _ (order : List ℕ) (start : List Timed) (in_order : Pairs InOrder (jobs
 
     pub finish_is : IsFinish order start job (finish_by_backlog order start job)
     finish_is = record {
-      done = own_at_end order start (all_apart order (jobs_of start) ordered in_order) job within takes later_above after_own above_released ticks (delayed r ticks later_above) first ends;
-      least = own_before order start (all_apart order (jobs_of start) ordered in_order) job within takes later_above after_own above_released ticks (delayed r ticks later_above) first ends;
+      done = own_at_end order start apart job within takes later_above after_own above_released ticks (delayed r ticks later_above) first ends;
+      least = own_before order start apart job within takes later_above after_own above_released ticks (delayed r ticks later_above) first ends;
     }

@@ -1,5 +1,6 @@
 pub mod Positions
 pub mod TimedJobs
+pub mod GoesBefore
 pub mod Waiting
 pub mod Ticks
 pub mod Finishes
@@ -12,7 +13,6 @@ pub mod Sums
 pub mod Ticked
 pub mod Places
 pub mod JobOrder
-pub mod FirstPending
 pub mod TimeOf
 pub mod TickedWork
 pub mod BacklogByTick
@@ -20,6 +20,7 @@ pub mod Delays
 pub mod OwnFinish
 pub mod LevelFinish
 pub mod Misses
+pub mod LaterJobs
 pub mod ScheduleLaw
 pub mod JobList
 pub mod LevelFound

@@ -6,11 +6,12 @@ use Rattle.std.proofs.lemmas.Bool.Decides.{nat_tests}
 use Rattle.prta_sheet.specs.Job.{Job}
 use Rattle.prta_sheet.specs.Assignment.{Timed}
 use Rattle.prta_sheet.specs.Machine.{place, goes_before, after, is_job, remaining}
-use Rattle.prta_ticksim.specs.ScheduleToBacklog.{jobs_of}
-use Rattle.prta_ticksim.proofs.Each.{Pairs, Each-weaker}
+use Rattle.prta_sheet.specs.Weights.{jobs_of}
+use Rattle.prta_ticksim.specs.Serving.{AreApart}
+use Rattle.prta_ticksim.proofs.Each.{Each-weaker}
 use Rattle.prta_ticksim.proofs.Sums.{sum_by-filter}
 use Rattle.prta_ticksim.proofs.Places.{same_place}
-use Rattle.prta_ticksim.proofs.FirstPending.{Apart, goes_on}
+use Rattle.prta_ticksim.proofs.GoesBefore.{goes_on}
 use Rattle.prta_ticksim.proofs.TimeOf.{time_of, until, later, at, time_of-same, time_of-split, time_of-none, until_zero}
 use Rattle.prta_ticksim.proofs.TickedWork.{IsClosed, left_now, left_next, work_next}
 use Rattle.prta_ticksim.proofs.BacklogByTick.{by_tick, by_tick-same, any}
@@ -85,7 +86,7 @@ module _ (order : List ℕ) (job : Job) where
 
 -- ---- in the machine
 
-module _ (order : List ℕ) (start : List Timed) (apart : Pairs (Apart order) (jobs_of start)) where
+module _ (order : List ℕ) (start : List Timed) (apart : AreApart order (jobs_of start)) where
   -- the released work is a backlog
   work_is_backlog : (p : Job → Bool) → IsClosed order p → (n : ℕ) → time_of (until p n) (after order start n) ≡ by_tick (λ k. time_of (at p k) start) n
   work_is_backlog p closed zero = until_zero p start

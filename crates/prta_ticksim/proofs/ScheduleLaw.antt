@@ -1,19 +1,20 @@
 -- Schedule to backlog, for all jobs before a time.
-use Rattle.std.proofs.Common.{◌≡◌, ℕ, ◌+◌, ◌<◌, ◌≤◌, Bool, true, false, cond, nat_le, nat_lt, List, [], ◌∷◌, length, get_or, filter, Contains, refl, ap, sym, ◌∙◌, subst, arith}
+use Rattle.std.proofs.Common.{◌≡◌, ℕ, ◌+◌, ◌<◌, ◌≤◌, true, cond, nat_le, nat_lt, List, length, get_or, Contains, ap, sym, ◌∙◌, subst, arith}
 use Rattle.std.specs.List.{AllByRecursion as Each}
 use Rattle.std.proofs.lemmas.List.{get_or-map, length-map}
 use Rattle.std.proofs.lemmas.List.Elements.{All-contains, All-from_recursion}
 use Rattle.std.proofs.lemmas.List.Sums.{get_or-le-sum_by}
-use Rattle.std.proofs.lemmas.Bool.{both_ways, and_from, eq-eqb}
+use Rattle.std.proofs.lemmas.Bool.{and_from, eq-eqb}
 use Rattle.std.proofs.lemmas.Bool.Decides.{nat_tests}
 use Rattle.prta_sheet.specs.Sheet.{Task}
 use Rattle.prta_sheet.specs.Job.{Job}
 use Rattle.prta_sheet.specs.Assignment.{Timed}
+use Rattle.prta_sheet.specs.Weights.{jobs_of}
 use Rattle.prta_sheet.specs.Machine.{place, is_job, remaining, IsFinish}
 use Rattle.prta_jobs.specs.Laws.{OrdersHavePlaces, JobsAreBefore}
 use Rattle.prta_jobs.specs.Backlog.{level_jobs, jobs_above, finish_by_backlog, backlog_at, delayed, released_until, released_after}
-use Rattle.prta_ticksim.specs.ScheduleToBacklog.{jobs_of, IsListed, ScheduleToBacklog}
-use Rattle.prta_ticksim.proofs.Each.{Pairs}
+use Rattle.prta_ticksim.specs.ScheduleToBacklog.{IsListed, ScheduleToBacklog}
+use Rattle.prta_ticksim.proofs.Each.{Pairs, filter_inner}
 use Rattle.prta_ticksim.proofs.Sums.{sum_by-filter}
 use Rattle.prta_ticksim.proofs.JobOrder.{InOrder, before_in_order}
 use Rattle.prta_ticksim.proofs.Analysed.{placed}
@@ -52,23 +53,12 @@ module _ (have_places : OrdersHavePlaces) (are_before : JobsAreBefore) (tasks : 
 
 -- ---- the level alone
 
--- of two tests in turn, where what passes the outer one passes the inner one, the outer one decides
-filter-inner : {X : Type 0} (p q : X → Bool) → ((x : X) → p x ≡ true → q x ≡ true) → (xs : List X) → filter p (filter q xs) ≡ filter p xs
-filter-inner p q implies [] = refl
-filter-inner p q implies (x ∷ xs) = by_flags (q x) (p x) refl refl (filter-inner p q implies xs)
-  where
-    by_flags : (b c : Bool) → q x ≡ b → p x ≡ c → filter p (filter q xs) ≡ filter p xs → filter p (cond (q x) (x ∷ filter q xs) (filter q xs)) ≡ cond (p x) (x ∷ filter p xs) (filter p xs)
-    by_flags true true e f rest = rw (e, f) (ap (λ ys. x ∷ ys) rest)
-    by_flags true false e f rest = rw (e, f) rest
-    by_flags false true e f rest = absurd (both_ways (q x) e (implies x f))
-    by_flags false false e f rest = rw (e, f) rest
-
 module _ (order : List ℕ) (start : List Timed) (job : Job) where
   level_again : level_jobs order job.task (level_jobs order job.task start) ≡ level_jobs order job.task start
-  level_again = filter-inner _ (λ e. nat_le (place order e.job.task) (place order job.task)) (λ e h. h) start
+  level_again = filter_inner _ (λ e. nat_le (place order e.job.task) (place order job.task)) (λ e h. h) start
 
   above_again : jobs_above order job.task (level_jobs order job.task start) ≡ jobs_above order job.task start
-  above_again = filter-inner _ (λ e. nat_le (place order e.job.task) (place order job.task)) (λ e h. below (place order e.job.task) (place order job.task) h) start
+  above_again = filter_inner _ (λ e. nat_le (place order e.job.task) (place order job.task)) (λ e h. below (place order e.job.task) (place order job.task) h) start
     where
       below : (a b : ℕ) → nat_lt a b ≡ true → nat_le a b ≡ true
       below a b h = grind (arith, nat_tests)

@@ -5,7 +5,7 @@ use Rattle.std.proofs.lemmas.List.Sums.{sum_by-le-sum_by}
 use Rattle.prta_sheet.specs.Job.{Job}
 use Rattle.prta_sheet.specs.Assignment.{Timed}
 use Rattle.prta_sheet.specs.Machine.{is_served, tick, after, is_job, remaining}
-use Rattle.prta_ticksim.specs.ScheduleToBacklog.{jobs_of}
+use Rattle.prta_sheet.specs.Weights.{jobs_of}
 use Rattle.prta_ticksim.proofs.Sums.{sum_by-filter, sum_by-map}
 
 -- what a tick makes of a listed job

@@ -30,13 +30,13 @@ module _ (order : List ℕ) (jobs : List Job) where
       ∙ sym (timed_get jobs next each_next i no_timed within))
 
   -- no tick is taken where none waits
-  idle_tick : (t : ℕ) (left : List ℕ) → length left ≡ length jobs → NoneWaits jobs left t (length jobs) → tick order t (timed_jobs jobs left) ≡ timed_jobs jobs left
+  pub idle_tick : (t : ℕ) (left : List ℕ) → length left ≡ length jobs → NoneWaits jobs left t (length jobs) → tick order t (timed_jobs jobs left) ≡ timed_jobs jobs left
   idle_tick t left each none =
       tick_by_places t left left each each
       (λ i low. ap (λ (b : Bool). if b then record (timed_at jobs left i) { time = get_or left i 0 - 1 } else timed_at jobs left i) (none_served order jobs left each t none i low))
 
   -- the first waiting job loses 1
-  busy_tick : AreApart order jobs → (t : ℕ) (left : List ℕ) (k : ℕ) → length left ≡ length jobs → IsFirstOf order jobs left t (length jobs) k →
+  pub busy_tick : AreApart order jobs → (t : ℕ) (left : List ℕ) (k : ℕ) → length left ≡ length jobs → IsFirstOf order jobs left t (length jobs) k →
       tick order t (timed_jobs jobs left) ≡ timed_jobs jobs (set left k (get_or left k 0 - 1))
   busy_tick apart t left k each first =
       let next : List ℕ = set left k (get_or left k 0 - 1) in

@@ -1,7 +1,7 @@
 -- The time that remains to those jobs of a list that pass a test.
-use Rattle.std.proofs.Common.{◌≡◌, ℕ, suc, ◌+◌, Bool, true, false, ◌&&◌, cond, nat_le, nat_lt, nat_eq, List, ◌∷◌, ◌++◌, filter, sum_by, refl, ◌∙◌, arith}
+use Rattle.std.proofs.Common.{◌≡◌, ℕ, suc, ◌+◌, Bool, true, false, ◌&&◌, cond, nat_le, nat_lt, nat_eq, List, ◌∷◌, filter, sum_by, refl, ◌∙◌, arith}
 use Rattle.std.specs.List.{AllByRecursion as Each}
-use Rattle.std.proofs.lemmas.List.Sums.{sum_by-cons, sum_by-append}
+use Rattle.std.proofs.lemmas.List.Sums.{sum_by-cons}
 use Rattle.std.proofs.lemmas.Bool.Decides.{nat_tests}
 use Rattle.prta_sheet.specs.Job.{Job}
 use Rattle.prta_sheet.specs.Assignment.{Timed}
@@ -30,9 +30,6 @@ time_of-split p q r split es = sum_by-same _ _ (λ e. split e.job e.time) es ∙
 
 pub time_of-none : (p : Job → Bool) (es : List Timed) → Each (λ e. cond (p e.job) e.time 0 ≡ 0) es → time_of p es ≡ 0
 time_of-none p es none = sum_by-none _ es none
-
-pub time_of-append : (p : Job → Bool) (xs ys : List Timed) → time_of p (xs ++ ys) ≡ time_of p xs + time_of p ys
-time_of-append p xs ys = sum_by-append (λ e. cond (p e.job) e.time 0) xs ys
 
 pub time_of-cons : (p : Job → Bool) (e : Timed) (es : List Timed) → time_of p (e ∷ es) ≡ cond (p e.job) e.time 0 + time_of p es
 time_of-cons p e es = sum_by-cons (λ e. cond (p e.job) e.time 0) e es

@@ -5,7 +5,7 @@ use Rattle.std.proofs.lemmas.Simd.{map-map}
 use Rattle.std.proofs.lemmas.Slice.Zip.{length-zip, get_or-zip, firsts-zip, seconds-zip}
 use Rattle.prta_sheet.specs.Job.{Job}
 use Rattle.prta_sheet.specs.Assignment.{Timed}
-use Rattle.prta_ticksim.specs.ScheduleToBacklog.{jobs_of}
+use Rattle.prta_sheet.specs.Weights.{jobs_of}
 use Rattle.prta_ticksim.specs.Times.{timed_jobs, job_at}
 
 -- the job that is read at a place of a list

@@ -1,8 +1,9 @@
 -- Times that are in their jobs' tables.
-use Rattle.std.proofs.Common.{◌≡◌, ℕ, suc, ◌<◌, true, false, nat_eq, None, List, [], ◌∷◌, length, get_or, All, refl, ap, sym, ◌∙◌, arith, inl, inr}
+use Rattle.std.proofs.Common.{◌≡◌, ℕ, suc, ◌%◌, ◌<◌, true, false, nat_eq, None, List, [], ◌∷◌, length, get_or, All, refl, ap, sym, ◌∙◌, arith, inl, inr}
 use Rattle.std.proofs.lemmas.Bool.{or_cases, eqb-true, not-false, both_ways}
+use Rattle.std.proofs.Math.Nat.{mod-lt}
 use Rattle.prta_mass.specs.Table.{Table, IsTable}
-use Rattle.prta_sheet.specs.Sheet.{Task}
+use Rattle.prta_sheet.specs.Sheet.{Task, task_at}
 use Rattle.prta_sheet.specs.Job.{Job, table_of}
 use Rattle.prta_sheet.specs.Accepted.{IsTask}
 use Rattle.prta_ticksim.specs.Times.{timed_jobs, job_at}
@@ -26,5 +27,7 @@ times_positive cap tasks jobs times each accepted on_sheet none i low =
     let fails : is_foreign tasks (timed_at jobs times i) ≡ false =
     ap (is_foreign tasks) (sym (timed_get jobs times each i no_timed low)) ∙ nowhere_fails (is_foreign tasks) (timed_jobs jobs times) no_timed none i (omega (arith, length-timed jobs times each)) in
     let table : Table = table_of tasks (job_at jobs i) in
-    let is_table : IsTable table = (accepted (job_at jobs i).task _ (on_sheet i _ low)).table in
+    let is_task : IsTask cap (task_at tasks (job_at jobs i).task) = accepted (job_at jobs i).task _ (on_sheet i _ low) in
+    let cycle : List Table = (task_at tasks (job_at jobs i).task).cycle in
+    let is_table : IsTable table = is_task.tables ((job_at jobs i).number % length cycle) [] (mod-lt (job_at jobs i).number (omega (arith, is_task.cycle_low))) in
     positive table (get_or times i 0) (λ k within. is_table.positive_times k (0, 0) within) (not-false (has_time table (get_or times i 0)) fails)

@@ -1,7 +1,7 @@
 -- The first waiting job is the one that is served.
-use Rattle.std.proofs.Common.{◌≡◌, ℕ, ◌<◌, ◌≤◌, Bool, true, false, not, ◌&&◌, nat_lt, nat_le, Option, Some, None, List, length, get_or, position, refl, ap, sym, ◌∙◌, arith, inl, inr}
+use Rattle.std.proofs.Common.{◌≡◌, ℕ, zero, suc, ◌<◌, ◌≤◌, Bool, true, false, not, ◌&&◌, nat_lt, nat_le, Option, Some, None, List, length, get_or, position, refl, ap, sym, ◌∙◌, arith, inl, inr, ◌⊎◌}
 use Rattle.std.specs.List.{list_all}
-use Rattle.std.proofs.lemmas.Bool.{cases_Bool, and_from, and_left, and_right, and_parts, true_from_ne_false, leb-true, ltb-true, le-leb, lt-ltb}
+use Rattle.std.proofs.lemmas.Bool.{both_ways, cases_Bool, cases_lt, false_from_ne_true, and_from, and_left, and_right, and_parts, true_from_ne_false, leb-true, ltb-true, le-leb, lt-ltb}
 use Rattle.std.proofs.lemmas.List.Sums.{list_all-from_AllPass}
 use Rattle.std.proofs.lemmas.List.Folds.{list_all_at}
 use Rattle.prta_sheet.specs.Job.{Job}
@@ -9,6 +9,7 @@ use Rattle.prta_sheet.specs.Assignment.{Timed}
 use Rattle.prta_sheet.specs.Machine.{is_pending, goes_before, is_served}
 use Rattle.prta_ticksim.specs.Times.{timed_jobs, job_at}
 use Rattle.prta_ticksim.specs.Serving.{AreApart, is_waiting, IsFirstOf, NoneWaits, IsFirstWaiting}
+use Rattle.prta_ticksim.proofs.GoesBefore.{goes_on, goes_not_itself}
 use Rattle.prta_ticksim.proofs.Positions.{position_here, position_nowhere}
 use Rattle.prta_ticksim.proofs.TimedJobs.{timed_at, no_timed, length-timed, timed_get}
 
@@ -74,6 +75,56 @@ module _ (order : List ℕ) (jobs : List Job) (left : List ℕ) (each : length l
       position_nowhere (is_served order t state) state no_timed (λ i low.
       let within : i < length jobs = omega (arith, length-timed jobs left each) in
       ap (is_served order t state) (timed_get jobs left each i no_timed within) ∙ none_served none i within)
+
+-- ---- there is a first one, or none waits
+
+module _ (order : List ℕ) (jobs : List Job) (left : List ℕ) (t : ℕ) where
+  abbrev pub Found : ℕ → Type 0
+  Found n = NoneWaits jobs left t n ⊎ ((k : ℕ) × IsFirstOf order jobs left t n k)
+
+  pub find_waiting : (n : ℕ) → Found n
+  find_waiting zero = inl (λ i low. absurd (omega arith))
+  find_waiting (suc n) = extend (is_waiting jobs left t n) refl (find_waiting n)
+    where
+      this : (i : ℕ) → i < suc n → n ≤ i → i ≡ n
+      this i low high = omega arith
+
+      stays : (k : ℕ) → IsFirstOf order jobs left t n k → (is_waiting jobs left t n ≡ true → goes_before order (job_at jobs n) (job_at jobs k) ≡ false) → IsFirstOf order jobs left t (suc n) k
+      stays k f not_ahead = record {
+        listed = omega (arith, f.listed);
+        waiting = f.waiting;
+        first = λ i low waits. elim (cases_lt i n) [
+          | inl before ↦ f.first i before waits
+          | inr here ↦ let same : i ≡ n = this i low here in rw same (not_ahead (rw same at waits))
+        ];
+      }
+
+      leads : is_waiting jobs left t n ≡ true → ((i : ℕ) → i < n → is_waiting jobs left t i ≡ true → goes_before order (job_at jobs i) (job_at jobs n) ≡ false) → IsFirstOf order jobs left t (suc n) n
+      leads waiting none_ahead = record {
+        listed = omega arith;
+        waiting = waiting;
+        first = λ i low waits. elim (cases_lt i n) [
+          | inl before ↦ none_ahead i before waits
+          | inr here ↦ let same : i ≡ n = this i low here in rw same (goes_not_itself order (job_at jobs n))
+        ];
+      }
+
+      extend : (b : Bool) → is_waiting jobs left t n ≡ b → Found n → Found (suc n)
+      extend false rests (inl none) =
+          inl (λ i low. elim (cases_lt i n) [ inl before ↦ none i before | inr here ↦ ap (is_waiting jobs left t) (this i low here) ∙ rests ])
+      extend true waits (inl none) = inr (n, leads waits (λ i before w. absurd (both_ways (is_waiting jobs left t i) (none i before) w)))
+      extend false rests (inr f) = inr (f.0, stays f.0 f.1 (λ waits. absurd (both_ways (is_waiting jobs left t n) rests waits)))
+      extend true waits (inr f) =
+          elim (cases_Bool (goes_before order (job_at jobs n) (job_at jobs f.0))) [
+            | inl ahead ↦
+                inr (
+                  n,
+                  leads waits (λ i before w.
+                      false_from_ne_true (goes_before order (job_at jobs i) (job_at jobs n)) (λ goes.
+                      both_ways (goes_before order (job_at jobs i) (job_at jobs f.0)) (f.1.first i before w) (goes_on order (job_at jobs i) (job_at jobs n) (job_at jobs f.0) goes ahead))),
+                )
+            | inr behind ↦ inr (f.0, stays f.0 f.1 (λ w. behind))
+          ]
 
 -- so what is answered for the first waiting job is the place of the served one
 pub first_runs : (order : List ℕ) (jobs : List Job) → AreApart order jobs → (left : List ℕ) → length left ≡ length jobs → (t : ℕ) (first : Option ℕ) →

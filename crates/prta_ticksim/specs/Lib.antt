@@ -7,3 +7,4 @@ pub mod Choices
 pub mod Worked
 pub mod ScheduleToBacklog
 pub mod Misses
+pub mod LaterJobs

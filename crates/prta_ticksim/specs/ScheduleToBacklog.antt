@@ -1,15 +1,12 @@
 -- Schedule to backlog: where the machine of ticks finishes a job is told by one number of backlog.
-use Rattle.std.specs.Prelude.{◌≡◌, ℕ, ◌≤◌, true, nat_lt, List, map, length, All, Contains}
+use Rattle.std.specs.Prelude.{◌≡◌, ℕ, ◌≤◌, true, nat_lt, List, length, All, Contains}
 use Rattle.prta_sheet.specs.Sheet.{Task}
 use Rattle.prta_sheet.specs.Job.{Job, jobs_before}
 use Rattle.prta_sheet.specs.Assignment.{Timed}
+use Rattle.prta_sheet.specs.Weights.{jobs_of}
 use Rattle.prta_sheet.specs.Machine.{misses, IsFinish}
 use Rattle.prta_jobs.specs.Permutation.{is_order}
 use Rattle.prta_jobs.specs.Backlog.{level_jobs, finish_by_backlog}
-
--- the jobs of a list with their times
-abbrev pub jobs_of : List Timed → List Job
-jobs_of start = map (λ e. e.job) start
 
 -- the machine starts with all jobs of the tasks before t, each with a time of at least 1, under an order of the tasks; the job is one of them
 pub record IsListed (tasks : List Task) (t : ℕ) (order : List ℕ) (start : List Timed) (job : Job) : Type 0 where

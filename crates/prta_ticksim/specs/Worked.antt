@@ -21,6 +21,13 @@ late_sheet = record { settings = record { cap = 12; hyperperiods = 3; turns = 16
 abbrev pub late_machine : MachineParts
 late_machine = machine_of late_sheet (0 ∷ []) (6 ∷ 6 ∷ 1 ∷ [])
 
+-- one task of period 4 whose every second job takes 3 ticks, over its first hyperperiod, which has both
+abbrev pub turns_sheet : Sheet
+turns_sheet = record {
+  settings = record { cap = 12; hyperperiods = 1; turns = 16; support = None };
+  tasks = record (task 0 4 4 []) { cycle = ((1, 1) ∷ []) ∷ ((3, 1) ∷ []) ∷ [] } ∷ [];
+}
+
 -- what runs in the first n ticks
 abbrev pub runs_until : MachineParts → ℕ → List (Option ℕ)
 runs_until machine n = map (running machine) (range_with_len 0 n)
@@ -38,6 +45,13 @@ pub record WorkedRuns : Type 0 where
   -- the second time is none of its own table, and the third one of the other table alone
   pub not_in_table : first_foreign pair_sheet.tasks (analysed_jobs pair_sheet) (2 ∷ 3 ∷ 4 ∷ []) ≡ Some 1
   pub of_another_table : first_foreign pair_sheet.tasks (analysed_jobs pair_sheet) (2 ∷ 4 ∷ 4 ∷ []) ≡ Some 2
+
+-- each job has a time of the table of its own number
+pub record WorkedTurns : Type 0 where
+  pub two_jobs : map (λ job. job.release) (analysed_jobs turns_sheet) ≡ 0 ∷ 4 ∷ []
+  pub in_turn : first_foreign turns_sheet.tasks (analysed_jobs turns_sheet) (1 ∷ 3 ∷ []) ≡ None
+  pub first_table_again : first_foreign turns_sheet.tasks (analysed_jobs turns_sheet) (1 ∷ 1 ∷ []) ≡ Some 1
+  pub out_of_turn : first_foreign turns_sheet.tasks (analysed_jobs turns_sheet) (3 ∷ 1 ∷ []) ≡ Some 0
 
 abbrev pub feed : List ℕ
 feed = 10 ∷ []

@@ -19,6 +19,8 @@ pub use backlog::finish_by_backlog;
 pub use choices::{Choices, ChoicesFault, read_choices};
 pub use fault::MachineFault;
 pub use machine::Machine;
-pub use model::{finishes_tell_misses, worked_choices, worked_runs};
+pub use model::{
+    finishes_tell_misses, later_jobs_change_no_miss, worked_choices, worked_runs, worked_turns,
+};
 pub use run::Run;
 pub use schedule::schedule_to_backlog;

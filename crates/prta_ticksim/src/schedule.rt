@@ -4,9 +4,9 @@ ghost use Rattle.prta_ticksim.specs.ScheduleToBacklog.{ScheduleToBacklog};
 
 use prta_jobs::{jobs_are_before, orders_have_places};
 
-/// For every list of all jobs before some time, every order of priorities and all times: the tick at which the machine
-/// finishes a listed job whose time is at least 1 is its finish by backlog, which reads only the jobs of its own task
-/// and of the tasks above it.
+/// The machine starts with all jobs of some tasks before some time, under an order of these tasks, and each job has a
+/// time of at least 1. Then each of the jobs finishes at its finish by backlog, misses where that is above its absolute
+/// deadline, and finishes at the same time whatever the jobs of lower tasks take.
 pub fn schedule_to_backlog()
     ensures { ScheduleToBacklog }
 {

@@ -56,11 +56,12 @@ pub(crate) fn horizon_of(sheet: &Sheet) -> u64
 pub(crate) fn first_foreign(tasks: &[Task], jobs: &[Job], times: &[u32]) -> Option<usize>
     requires each { length times.now ≡ length jobs.now }
     requires tasks { All (λ job. job.task < length tasks.now) jobs.now }
+    requires cycles { All (λ task. 1 ≤ length task.cycle) tasks.now }
     ensures { result ≡ first_foreign tasks.now jobs.now times.now }
 {
     for i in 0..jobs.len() {
         let job = &jobs[i];
-        if !has_time(tasks[job.task].table(), times[i]) {
+        if !has_time(tasks[job.task].table(job.number), times[i]) {
             return Some(i);
         }
     }

@@ -1,330 +1,557 @@
-//! A simple sheet, its texts, the sheet with one piece of it replaced, and refused sheets.
+//! Sheets, with how `analyse` ends.
 
+use crate::status::Status;
 use std::alloc::Global;
 use std::test::Fail;
 
-pub const QUARTER: &str =
+// The bytes of a file.
+#[derive(Clone, Copy)]
+pub enum Text {
+    Given(&'static [u8]),
+    // The sheet of the quarter with one piece of its text replaced.
+    Changed(&'static str, &'static str),
+    // The sheet of the quarter with a comment at its end, so many bytes long.
+    Padded(usize),
+    // So many lines of the time 1, and an end.
+    Ones(usize, &'static str),
+}
+
+const QUARTER: &str =
     "format = 1\n[[task]]\nname = \"A\"\nperiod = 10\ndeadline = 5\ntimes = [[3, 3], [7, 1]]\n";
+
+pub const AS_IT_IS: Text = Text::Changed("", "");
 
 pub const QUARTER_TEXT: &[u8] =
     b"prta analyse 1\nhyperperiod 10 jobs 1\njob A 0 release 0 deadline 5 lower 288230376151711744 0.250000000000 upper 288230376151711744 0.250000000000\nend\n";
 
-pub const TENTH_TEXT: &[u8] =
+const TENTH_TEXT: &[u8] =
     b"prta analyse 1\nhyperperiod 10 jobs 1\njob A 0 release 0 deadline 5 lower 115292150460684697 0.099999999999 upper 115292150460684698 0.100000000001\nend\n";
 
-pub const NEVER_TEXT: &[u8] =
+const NEVER_TEXT: &[u8] =
     b"prta analyse 1\nhyperperiod 10 jobs 1\njob A 0 release 0 deadline 7 lower 0 0.000000000000 upper 0 0.000000000000\nend\n";
 
-// A total of 2^32 in one point.
-pub const TOTAL_TEXT: &[u8] =
+// One point, whatever its weight.
+const TOTAL_TEXT: &[u8] =
     b"prta analyse 1\nhyperperiod 10 jobs 1\njob A 0 release 0 deadline 5 lower 0 0.000000000000 upper 0 0.000000000000\nend\n";
 
+// A weight of 2^32 beside one of 1.
+const LIGHT_TEXT: &[u8] =
+    b"prta analyse 1\nhyperperiod 10 jobs 1\njob A 0 release 0 deadline 5 lower 268435455 0.000000000232 upper 268435456 0.000000000233\nend\n";
+
 // A job that is released at 2.
-pub const OFFSET_TEXT: &[u8] =
+const OFFSET_TEXT: &[u8] =
     b"prta analyse 1\nhyperperiod 4 jobs 1\njob A 0 release 2 deadline 5 lower 288230376151711744 0.250000000000 upper 288230376151711744 0.250000000000\nend\n";
 
 // Deadlines above the period: later jobs of the task are released before the deadline.
-pub const LONG_TEXT: &[u8] =
+const LONG_TEXT: &[u8] =
     b"prta analyse 1\nhyperperiod 10 jobs 1\njob A 0 release 0 deadline 12 lower 0 0.000000000000 upper 0 0.000000000000\nend\n";
 
-pub const LONGER_TEXT: &[u8] =
+const LONGER_TEXT: &[u8] =
     b"prta analyse 1\nhyperperiod 10 jobs 1\njob A 0 release 0 deadline 25 lower 0 0.000000000000 upper 0 0.000000000000\nend\n";
 
-// What is replaced in the sheet of the quarter, and the text of what comes out.
-pub const SIMPLE: [(&str, &str, &[u8]); 17] = [
-    ("", "", QUARTER_TEXT),
-    ("[3, 3]", "[3, 9]", TENTH_TEXT),
-    ("5\ntimes = [[3, 3]", "7\ntimes = [[3, 9]", NEVER_TEXT),
+// A task whose jobs have two tables in turn.
+pub const CYCLE: &[u8] =
+    b"format = 2\n[[task]]\nname = \"A\"\nperiod = 5\ndeadline = 5\ncycle = [[[3, 1], [6, 1]], [[2, 1]]]\n";
+
+const NOT_YET: &[u8] = b"prta: not yet\n";
+
+// A sheet, the status, and the text: on out where the status is Done, else on err.
+pub static SHEETS: [(Text, Status, &[u8]); 86] = [
+    (AS_IT_IS, Status::Done, QUARTER_TEXT),
+    (Text::Changed("[3, 3]", "[3, 9]"), Status::Done, TENTH_TEXT),
+    (
+        Text::Changed("5\ntimes = [[3, 3]", "7\ntimes = [[3, 9]"),
+        Status::Done,
+        NEVER_TEXT,
+    ),
     // The same sheet in other spellings, and with what counts anyway.
-    ("deadline = 5", "deadline = 0b101 # ticks", QUARTER_TEXT),
-    ("period = 10", "\"period\" = 0x0A", QUARTER_TEXT),
-    ("\"A\"", "'A'", QUARTER_TEXT),
     (
-        "[[3, 3], [7, 1]]",
-        "[\r\n  [3, 3], # often\r\n  [7, 1],\r\n]",
+        Text::Changed("deadline = 5", "deadline = 0b101 # ticks"),
+        Status::Done,
         QUARTER_TEXT,
     ),
     (
-        "format = 1\n",
-        "# a sheet\r\n\r\nformat = 1\r\n",
+        Text::Changed("period = 10", "\"period\" = 0x0A"),
+        Status::Done,
+        QUARTER_TEXT,
+    ),
+    (Text::Changed("\"A\"", "'A'"), Status::Done, QUARTER_TEXT),
+    (
+        Text::Changed(
+            "[[3, 3], [7, 1]]",
+            "[\r\n  [3, 3], # often\r\n  [7, 1],\r\n]",
+        ),
+        Status::Done,
         QUARTER_TEXT,
     ),
     (
-        "[[task]]\nname = \"A\"\nperiod = 10\ndeadline = 5\ntimes = [[3, 3], [7, 1]]\n",
-        "task = [{ times = [[3, 3], [7, 1]], deadline = 5, period = 10, name = \"A\" }]",
+        Text::Changed("format = 1\n", "# a sheet\r\n\r\nformat = 1\r\n"),
+        Status::Done,
         QUARTER_TEXT,
     ),
-    ("format = 1", "\u{feff}format = 1", QUARTER_TEXT),
-    ("format = 1", "format = 1\ncap = 7", QUARTER_TEXT),
     (
-        "format = 1",
-        "format = 1\ncap = 2048\nhyperperiods = 1\nturns = 64\nsupport = { fine = 0, step = 4 }",
+        Text::Changed(
+            "[[task]]\nname = \"A\"\nperiod = 10\ndeadline = 5\ntimes = [[3, 3], [7, 1]]\n",
+            "task = [{ times = [[3, 3], [7, 1]], deadline = 5, period = 10, name = \"A\" }]",
+        ),
+        Status::Done,
         QUARTER_TEXT,
     ),
-    ("[7, 1]", "[10, 1]", QUARTER_TEXT),
-    ("[3, 3], [7, 1]", "[3, 4294967296]", TOTAL_TEXT),
     (
-        "period = 10\ndeadline = 5\ntimes = [[3, 3], [7, 1]]",
-        "offset = 2\nperiod = 4\ndeadline = 3\ntimes = [[1, 3], [4, 1]]",
+        Text::Changed("format = 1", "\u{feff}format = 1"),
+        Status::Done,
+        QUARTER_TEXT,
+    ),
+    (
+        Text::Changed("format = 1", "format = 1\ncap = 7"),
+        Status::Done,
+        QUARTER_TEXT,
+    ),
+    (
+        Text::Changed(
+            "format = 1",
+            "format = 1\ncap = 2048\nhyperperiods = 1\nturns = 64\nsupport = { fine = 0, step = 4 }",
+        ),
+        Status::Done,
+        QUARTER_TEXT,
+    ),
+    (
+        Text::Changed("[7, 1]", "[10, 1]"),
+        Status::Done,
+        QUARTER_TEXT,
+    ),
+    (
+        Text::Changed("[3, 3], [7, 1]", "[3, 4294967296]"),
+        Status::Done,
+        TOTAL_TEXT,
+    ),
+    (
+        Text::Changed("[3, 3], [7, 1]", "[3, 281474976710656]"),
+        Status::Done,
+        TOTAL_TEXT,
+    ),
+    (
+        Text::Changed("[3, 3]", "[3, 4294967296]"),
+        Status::Done,
+        LIGHT_TEXT,
+    ),
+    // In format 2 with one table, under either key.
+    (
+        Text::Changed("format = 1", "format = 2"),
+        Status::Done,
+        QUARTER_TEXT,
+    ),
+    (
+        Text::Given(
+            b"format = 2\n[[task]]\nname = \"A\"\nperiod = 10\ndeadline = 5\ncycle = [[[3, 3], [7, 1]]]\n",
+        ),
+        Status::Done,
+        QUARTER_TEXT,
+    ),
+    (
+        Text::Changed(
+            "period = 10\ndeadline = 5\ntimes = [[3, 3], [7, 1]]",
+            "offset = 2\nperiod = 4\ndeadline = 3\ntimes = [[1, 3], [4, 1]]",
+        ),
+        Status::Done,
         OFFSET_TEXT,
     ),
     (
-        "deadline = 5\ntimes = [[3, 3], [7, 1]]",
-        "deadline = 12\ntimes = [[3, 3], [10, 1]]",
+        Text::Changed(
+            "deadline = 5\ntimes = [[3, 3], [7, 1]]",
+            "deadline = 12\ntimes = [[3, 3], [10, 1]]",
+        ),
+        Status::Done,
         LONG_TEXT,
     ),
-    ("deadline = 5", "deadline = 25", LONGER_TEXT),
-];
-
-// What is replaced so that an accepted sheet isn't simple.
-pub const NOT_SIMPLE: [(&str, &str); 3] = [
     (
-        "[[task]]",
-        "[[task]]\nname = \"B\"\nperiod = 10\ndeadline = 5\ntimes = [[1, 1]]\n[[task]]",
+        Text::Changed("deadline = 5", "deadline = 25"),
+        Status::Done,
+        LONGER_TEXT,
     ),
-    ("format = 1", "format = 1\nhyperperiods = 2"),
-    ("[7, 1]", "[11, 1]"),
-];
-
-// What is replaced so that the sheet is refused, and the line on err.
-pub const REFUSED: [(&str, &str, &[u8]); 48] = [
+    // Sheets that are not simple.
     (
-        "[3, 3]",
-        "[3, 4294967296]",
+        Text::Changed(
+            "[[task]]",
+            "[[task]]\nname = \"B\"\nperiod = 10\ndeadline = 5\ntimes = [[1, 1]]\n[[task]]",
+        ),
+        Status::NotYet,
+        NOT_YET,
+    ),
+    (
+        Text::Changed("format = 1", "format = 1\nhyperperiods = 2"),
+        Status::NotYet,
+        NOT_YET,
+    ),
+    (Text::Changed("[7, 1]", "[11, 1]"), Status::NotYet, NOT_YET),
+    (Text::Given(CYCLE), Status::NotYet, NOT_YET),
+    // Refused sheets.
+    (
+        Text::Changed("[3, 3]", "[3, 281474976710656]"),
+        Status::SheetRefused,
         b"prta: sheet refused 12 at task 0\n",
     ),
     (
-        "format = 1",
-        "format = 1\ncap = 6",
+        Text::Changed("format = 1", "format = 1\ncap = 6"),
+        Status::SheetRefused,
         b"prta: sheet refused 13 at task 0\n",
     ),
     (
-        "[3, 3]",
-        "[3, 3.0]",
+        Text::Changed("[3, 3]", "[3, 3.0]"),
+        Status::SheetRefused,
         b"prta: sheet refused 6 at task 0 key times\n",
     ),
     (
-        "period",
-        "offset = 10\nperiod",
+        Text::Changed("period", "offset = 10\nperiod"),
+        Status::SheetRefused,
         b"prta: sheet refused 10 at task 0\n",
     ),
     (
-        "[[3, 3], [7, 1]]",
-        "[[7, 3], [3, 1]]",
+        Text::Changed("[[3, 3], [7, 1]]", "[[7, 3], [3, 1]]"),
+        Status::SheetRefused,
         b"prta: sheet refused 11 at task 0\n",
     ),
     (
-        "period",
-        "prio = 1\nperiod",
+        Text::Changed("period", "prio = 1\nperiod"),
+        Status::SheetRefused,
         b"prta: sheet refused 4 at task 0\n",
     ),
     (
-        "deadline = 5\n",
-        "",
+        Text::Changed("deadline = 5\n", ""),
+        Status::SheetRefused,
         b"prta: sheet refused 5 at task 0 key deadline\n",
     ),
     (
-        "period = 10",
-        "period = 0",
+        Text::Changed("period = 10", "period = 0"),
+        Status::SheetRefused,
         b"prta: sheet refused 7 at task 0 key period\n",
     ),
     (
-        "[[task]]",
-        "[[task]]\nname = \"A\"\nperiod = 10\ndeadline = 5\ntimes = [[3, 3], [7, 1]]\n[[task]]",
+        Text::Changed(
+            "[[task]]",
+            "[[task]]\nname = \"A\"\nperiod = 10\ndeadline = 5\ntimes = [[3, 3], [7, 1]]\n[[task]]",
+        ),
+        Status::SheetRefused,
         b"prta: sheet refused 9 at task 1\n",
     ),
     (
-        "[[task]]\nname = \"A\"\nperiod = 10\ndeadline = 5\ntimes = [[3, 3], [7, 1]]\n",
-        "task = []\n",
+        Text::Changed(
+            "[[task]]\nname = \"A\"\nperiod = 10\ndeadline = 5\ntimes = [[3, 3], [7, 1]]\n",
+            "task = []\n",
+        ),
+        Status::SheetRefused,
         b"prta: sheet refused 8 value 0\n",
     ),
-    ("format = 1", "", b"prta: sheet refused 3\n"),
-    ("format = 1", "format = 2", b"prta: sheet refused 3\n"),
-    ("format = 1", "format = true", b"prta: sheet refused 3\n"),
     (
-        "[[task]]",
-        "[task]",
-        b"prta: sheet refused 6 at top key task\n",
-    ),
-    ("[[task]]", "[[tasks]]", b"prta: sheet refused 4 at top\n"),
-    ("[[task]]", "[[task]", b"prta: sheet refused 2\n"),
-    ("\"A\"", "\"\"", b"prta: sheet refused 9 at task 0\n"),
-    ("\"A\"", "\"A b\"", b"prta: sheet refused 9 at task 0\n"),
-    (
-        "\"A\"",
-        "\"abcdefghijklmnopqrstu-_90\"",
-        b"prta: sheet refused 9 at task 0\n",
-    ),
-    ("\"A\"", "1", b"prta: sheet refused 6 at task 0 key name\n"),
-    (
-        "name = \"A\"\n",
-        "",
-        b"prta: sheet refused 5 at task 0 key name\n",
+        Text::Changed("format = 1", ""),
+        Status::SheetRefused,
+        b"prta: sheet refused 3\n",
     ),
     (
-        "period = 10",
-        "period = 1_000_001",
-        b"prta: sheet refused 7 at task 0 key period\n",
+        Text::Changed("format = 1", "format = 3"),
+        Status::SheetRefused,
+        b"prta: sheet refused 3\n",
+    ),
+    // A cycle in format 1, beside `times`, without a table, and one that repeats too late.
+    (
+        Text::Given(
+            b"format = 1\n[[task]]\nname = \"A\"\nperiod = 5\ndeadline = 5\ncycle = [[[3, 1], [6, 1]], [[2, 1]]]\n",
+        ),
+        Status::SheetRefused,
+        b"prta: sheet refused 4 at task 0\n",
     ),
     (
-        "period = 10",
-        "period = -10",
-        b"prta: sheet refused 7 at task 0 key period\n",
+        Text::Given(
+            b"format = 2\n[[task]]\nname = \"A\"\nperiod = 5\ndeadline = 5\ntimes = [[3, 1]]\ncycle = [[[3, 1], [6, 1]], [[2, 1]]]\n",
+        ),
+        Status::SheetRefused,
+        b"prta: sheet refused 4 at task 0\n",
     ),
     (
-        "deadline = 5",
-        "deadline = 0",
-        b"prta: sheet refused 7 at task 0 key deadline\n",
+        Text::Given(b"format = 2\n[[task]]\nname = \"A\"\nperiod = 5\ndeadline = 5\ncycle = []\n"),
+        Status::SheetRefused,
+        b"prta: sheet refused 7 at task 0 key cycle\n",
     ),
     (
-        "deadline = 5",
-        "deadline = 2047",
-        b"prta: sheet refused 13 at task 0\n",
-    ),
-    (
-        "deadline = 5",
-        "deadline = 1_000_001",
-        b"prta: sheet refused 7 at task 0 key deadline\n",
-    ),
-    (
-        "[[3, 3], [7, 1]]",
-        "[]",
-        b"prta: sheet refused 11 at task 0\n",
-    ),
-    (
-        "[[3, 3], [7, 1]]",
-        "[[3, 3, 3]]",
-        b"prta: sheet refused 6 at task 0 key times\n",
-    ),
-    ("[3, 3]", "[0, 3]", b"prta: sheet refused 11 at task 0\n"),
-    ("[7, 1]", "[7, 0]", b"prta: sheet refused 11 at task 0\n"),
-    ("[7, 1]", "[3, 1]", b"prta: sheet refused 11 at task 0\n"),
-    (
-        "[7, 1]",
-        "[7, 4294967294]",
-        b"prta: sheet refused 12 at task 0\n",
-    ),
-    (
-        "[7, 1]",
-        "[1_000_001, 1]",
-        b"prta: sheet refused 7 at task 0 key times\n",
-    ),
-    (
-        "format = 1",
-        "format = 1\ncap = 2",
-        b"prta: sheet refused 7 at top key cap\n",
-    ),
-    (
-        "format = 1",
-        "format = 1\ncap = 16385",
-        b"prta: sheet refused 7 at top key cap\n",
-    ),
-    (
-        "format = 1",
-        "format = 1\nturns = 65",
-        b"prta: sheet refused 7 at top key turns\n",
-    ),
-    (
-        "format = 1",
-        "format = 1\nhyperperiods = 0",
-        b"prta: sheet refused 7 at top key hyperperiods\n",
-    ),
-    (
-        "format = 1",
-        "format = 1\nhyperperiods = 1.0",
-        b"prta: sheet refused 6 at top key hyperperiods\n",
-    ),
-    (
-        "format = 1",
-        "format = 1\nsupport = 4",
-        b"prta: sheet refused 6 at top key support\n",
-    ),
-    (
-        "format = 1",
-        "format = 1\nsupport = { fine = 0 }",
-        b"prta: sheet refused 5 at support key step\n",
-    ),
-    (
-        "format = 1",
-        "format = 1\nsupport = { fine = 0, step = 0 }",
-        b"prta: sheet refused 7 at support key step\n",
-    ),
-    (
-        "format = 1",
-        "format = 1\nsupport = { fine = 16384, step = 1 }",
-        b"prta: sheet refused 7 at support key fine\n",
-    ),
-    (
-        "format = 1",
-        "format = 1\nsupport = { fine = 0, step = 4, more = 1 }",
-        b"prta: sheet refused 4 at support\n",
-    ),
-    (
-        "format = 1",
-        "format = 1\ntitle = \"a\"",
-        b"prta: sheet refused 4 at top\n",
-    ),
-    (
-        "period",
-        "allow = [2, 1]\nperiod",
-        b"prta: sheet refused 7 at task 0 key allow\n",
-    ),
-    (
-        "period",
-        "allow = [0, 0]\nperiod",
-        b"prta: sheet refused 7 at task 0 key allow\n",
-    ),
-    (
-        "period",
-        "allow = [1]\nperiod",
-        b"prta: sheet refused 6 at task 0 key allow\n",
-    ),
-    (
-        "format = 1\n[[task]]",
-        "format = 1\nturns = -1\nsupport = { fine = -1, step = 1 }\n[[task]]\noffset = -1",
-        b"prta: sheet refused 7 at top key turns\n",
-    ),
-];
-
-// Sheets, or what is none, and the line on err.
-pub const REFUSED_WHOLE: [(&[u8], &[u8]); 7] = [
-    (b"", b"prta: sheet refused 3\n"),
-    (b"\xff", b"prta: sheet refused 2\n"),
-    (b"format = 1\n[[task]\n", b"prta: sheet refused 2\n"),
-    (
-        b"format = 1\n[[task]]\nname = \"A\"\nperiod = 101\ndeadline = 5\ntimes = [[3, 3], [7, 1]]\n[[task]]\nname = \"B\"\nperiod = 9901\ndeadline = 5\ntimes = [[3, 3], [7, 1]]\n",
+        Text::Given(
+            b"format = 2\n[[task]]\nname = \"A\"\nperiod = 100000\ndeadline = 5\ncycle = [[[1, 1]], [[1, 1]], [[1, 1]], [[1, 1]], [[1, 1]], [[1, 1]], [[1, 1]], [[1, 1]], [[1, 1]], [[1, 1]], [[1, 1]]]\n",
+        ),
+        Status::SheetRefused,
         b"prta: sheet refused 14\n",
     ),
     (
-        b"format = 1\nhyperperiods = 2\n[[task]]\nname = \"A\"\nperiod = 1\ndeadline = 1\ntimes = [[1, 1]]\n[[task]]\nname = \"B\"\nperiod = 1000\ndeadline = 1\ntimes = [[1, 1]]\n",
+        Text::Changed("format = 1", "format = true"),
+        Status::SheetRefused,
+        b"prta: sheet refused 3\n",
+    ),
+    (
+        Text::Changed("[[task]]", "[task]"),
+        Status::SheetRefused,
+        b"prta: sheet refused 6 at top key task\n",
+    ),
+    (
+        Text::Changed("[[task]]", "[[tasks]]"),
+        Status::SheetRefused,
+        b"prta: sheet refused 4 at top\n",
+    ),
+    (
+        Text::Changed("[[task]]", "[[task]"),
+        Status::SheetRefused,
+        b"prta: sheet refused 2\n",
+    ),
+    (
+        Text::Changed("\"A\"", "\"\""),
+        Status::SheetRefused,
+        b"prta: sheet refused 9 at task 0\n",
+    ),
+    (
+        Text::Changed("\"A\"", "\"A b\""),
+        Status::SheetRefused,
+        b"prta: sheet refused 9 at task 0\n",
+    ),
+    (
+        Text::Changed("\"A\"", "\"abcdefghijklmnopqrstu-_90\""),
+        Status::SheetRefused,
+        b"prta: sheet refused 9 at task 0\n",
+    ),
+    (
+        Text::Changed("\"A\"", "1"),
+        Status::SheetRefused,
+        b"prta: sheet refused 6 at task 0 key name\n",
+    ),
+    (
+        Text::Changed("name = \"A\"\n", ""),
+        Status::SheetRefused,
+        b"prta: sheet refused 5 at task 0 key name\n",
+    ),
+    (
+        Text::Changed("period = 10", "period = 1_000_001"),
+        Status::SheetRefused,
+        b"prta: sheet refused 7 at task 0 key period\n",
+    ),
+    (
+        Text::Changed("period = 10", "period = -10"),
+        Status::SheetRefused,
+        b"prta: sheet refused 7 at task 0 key period\n",
+    ),
+    (
+        Text::Changed("deadline = 5", "deadline = 0"),
+        Status::SheetRefused,
+        b"prta: sheet refused 7 at task 0 key deadline\n",
+    ),
+    (
+        Text::Changed("deadline = 5", "deadline = 2047"),
+        Status::SheetRefused,
+        b"prta: sheet refused 13 at task 0\n",
+    ),
+    (
+        Text::Changed("deadline = 5", "deadline = 1_000_001"),
+        Status::SheetRefused,
+        b"prta: sheet refused 7 at task 0 key deadline\n",
+    ),
+    (
+        Text::Changed("[[3, 3], [7, 1]]", "[]"),
+        Status::SheetRefused,
+        b"prta: sheet refused 11 at task 0\n",
+    ),
+    (
+        Text::Changed("[[3, 3], [7, 1]]", "[[3, 3, 3]]"),
+        Status::SheetRefused,
+        b"prta: sheet refused 6 at task 0 key times\n",
+    ),
+    (
+        Text::Changed("[3, 3]", "[0, 3]"),
+        Status::SheetRefused,
+        b"prta: sheet refused 11 at task 0\n",
+    ),
+    (
+        Text::Changed("[7, 1]", "[7, 0]"),
+        Status::SheetRefused,
+        b"prta: sheet refused 11 at task 0\n",
+    ),
+    (
+        Text::Changed("[7, 1]", "[3, 1]"),
+        Status::SheetRefused,
+        b"prta: sheet refused 11 at task 0\n",
+    ),
+    (
+        Text::Changed("[7, 1]", "[7, 281474976710654]"),
+        Status::SheetRefused,
+        b"prta: sheet refused 12 at task 0\n",
+    ),
+    (
+        Text::Changed("[7, 1]", "[1_000_001, 1]"),
+        Status::SheetRefused,
+        b"prta: sheet refused 7 at task 0 key times\n",
+    ),
+    (
+        Text::Changed("format = 1", "format = 1\ncap = 2"),
+        Status::SheetRefused,
+        b"prta: sheet refused 7 at top key cap\n",
+    ),
+    (
+        Text::Changed("format = 1", "format = 1\ncap = 16385"),
+        Status::SheetRefused,
+        b"prta: sheet refused 7 at top key cap\n",
+    ),
+    (
+        Text::Changed("format = 1", "format = 1\nturns = 65"),
+        Status::SheetRefused,
+        b"prta: sheet refused 7 at top key turns\n",
+    ),
+    (
+        Text::Changed("format = 1", "format = 1\nhyperperiods = 0"),
+        Status::SheetRefused,
+        b"prta: sheet refused 7 at top key hyperperiods\n",
+    ),
+    (
+        Text::Changed("format = 1", "format = 1\nhyperperiods = 1.0"),
+        Status::SheetRefused,
+        b"prta: sheet refused 6 at top key hyperperiods\n",
+    ),
+    (
+        Text::Changed("format = 1", "format = 1\nsupport = 4"),
+        Status::SheetRefused,
+        b"prta: sheet refused 6 at top key support\n",
+    ),
+    (
+        Text::Changed("format = 1", "format = 1\nsupport = { fine = 0 }"),
+        Status::SheetRefused,
+        b"prta: sheet refused 5 at support key step\n",
+    ),
+    (
+        Text::Changed("format = 1", "format = 1\nsupport = { fine = 0, step = 0 }"),
+        Status::SheetRefused,
+        b"prta: sheet refused 7 at support key step\n",
+    ),
+    (
+        Text::Changed(
+            "format = 1",
+            "format = 1\nsupport = { fine = 16384, step = 1 }",
+        ),
+        Status::SheetRefused,
+        b"prta: sheet refused 7 at support key fine\n",
+    ),
+    (
+        Text::Changed(
+            "format = 1",
+            "format = 1\nsupport = { fine = 0, step = 4, more = 1 }",
+        ),
+        Status::SheetRefused,
+        b"prta: sheet refused 4 at support\n",
+    ),
+    (
+        Text::Changed("format = 1", "format = 1\ntitle = \"a\""),
+        Status::SheetRefused,
+        b"prta: sheet refused 4 at top\n",
+    ),
+    (
+        Text::Changed("period", "allow = [2, 1]\nperiod"),
+        Status::SheetRefused,
+        b"prta: sheet refused 7 at task 0 key allow\n",
+    ),
+    (
+        Text::Changed("period", "allow = [0, 0]\nperiod"),
+        Status::SheetRefused,
+        b"prta: sheet refused 7 at task 0 key allow\n",
+    ),
+    (
+        Text::Changed("period", "allow = [1]\nperiod"),
+        Status::SheetRefused,
+        b"prta: sheet refused 6 at task 0 key allow\n",
+    ),
+    (
+        Text::Changed(
+            "format = 1\n[[task]]",
+            "format = 1\nturns = -1\nsupport = { fine = -1, step = 1 }\n[[task]]\noffset = -1",
+        ),
+        Status::SheetRefused,
+        b"prta: sheet refused 7 at top key turns\n",
+    ),
+    // Sheets, or what is none.
+    (
+        Text::Given(b""),
+        Status::SheetRefused,
+        b"prta: sheet refused 3\n",
+    ),
+    (
+        Text::Given(b"\xff"),
+        Status::SheetRefused,
+        b"prta: sheet refused 2\n",
+    ),
+    (
+        Text::Given(b"format = 1\n[[task]\n"),
+        Status::SheetRefused,
+        b"prta: sheet refused 2\n",
+    ),
+    (
+        Text::Given(
+            b"format = 1\n[[task]]\nname = \"A\"\nperiod = 101\ndeadline = 5\ntimes = [[3, 3], [7, 1]]\n[[task]]\nname = \"B\"\nperiod = 9901\ndeadline = 5\ntimes = [[3, 3], [7, 1]]\n",
+        ),
+        Status::SheetRefused,
+        b"prta: sheet refused 14\n",
+    ),
+    (
+        Text::Given(
+            b"format = 1\nhyperperiods = 2\n[[task]]\nname = \"A\"\nperiod = 1\ndeadline = 1\ntimes = [[1, 1]]\n[[task]]\nname = \"B\"\nperiod = 1000\ndeadline = 1\ntimes = [[1, 1]]\n",
+        ),
+        Status::SheetRefused,
         b"prta: sheet refused 15 value 2002\n",
     ),
     // The jobs are counted and not listed.
     (
-        b"format = 1\nhyperperiods = 64\n[[task]]\nname = \"A\"\nperiod = 1\ndeadline = 1\ntimes = [[1, 1]]\n[[task]]\nname = \"B\"\nperiod = 1000000\ndeadline = 1\ntimes = [[1, 1]]\n",
+        Text::Given(
+            b"format = 1\nhyperperiods = 64\n[[task]]\nname = \"A\"\nperiod = 1\ndeadline = 1\ntimes = [[1, 1]]\n[[task]]\nname = \"B\"\nperiod = 1000000\ndeadline = 1\ntimes = [[1, 1]]\n",
+        ),
+        Status::SheetRefused,
         b"prta: sheet refused 15 value 64000064\n",
     ),
     (
-        b"format = 1\ncap = 16384\n[[task]]\nname = \"A\"\nperiod = 1\ndeadline = 1\ntimes = [[1, 1], [2, 1], [3, 1], [4, 1], [5, 1], [6, 1], [7, 1], [8, 1], [9, 1], [10, 1], [11, 1], [12, 1], [13, 1], [14, 1], [15, 1], [16, 1], [17, 1], [18, 1], [19, 1], [20, 1], [21, 1], [22, 1], [23, 1], [24, 1], [25, 1], [26, 1], [27, 1], [28, 1], [29, 1], [30, 1], [31, 1], [32, 1]]\n[[task]]\nname = \"B\"\nperiod = 1000\ndeadline = 1\ntimes = [[1, 1]]\n[[task]]\nname = \"C\"\nperiod = 1000\ndeadline = 1\ntimes = [[1, 1]]\n[[task]]\nname = \"D\"\nperiod = 1000\ndeadline = 1\ntimes = [[1, 1]]\n[[task]]\nname = \"E\"\nperiod = 1000\ndeadline = 1\ntimes = [[1, 1]]\n",
+        Text::Given(
+            b"format = 1\ncap = 16384\n[[task]]\nname = \"A\"\nperiod = 1\ndeadline = 1\ntimes = [[1, 1], [2, 1], [3, 1], [4, 1], [5, 1], [6, 1], [7, 1], [8, 1], [9, 1], [10, 1], [11, 1], [12, 1], [13, 1], [14, 1], [15, 1], [16, 1], [17, 1], [18, 1], [19, 1], [20, 1], [21, 1], [22, 1], [23, 1], [24, 1], [25, 1], [26, 1], [27, 1], [28, 1], [29, 1], [30, 1], [31, 1], [32, 1]]\n[[task]]\nname = \"B\"\nperiod = 1000\ndeadline = 1\ntimes = [[1, 1]]\n[[task]]\nname = \"C\"\nperiod = 1000\ndeadline = 1\ntimes = [[1, 1]]\n[[task]]\nname = \"D\"\nperiod = 1000\ndeadline = 1\ntimes = [[1, 1]]\n[[task]]\nname = \"E\"\nperiod = 1000\ndeadline = 1\ntimes = [[1, 1]]\n",
+        ),
+        Status::SheetRefused,
         b"prta: sheet refused 16 value 2621767680\n",
+    ),
+    // Just the limit of a file, and a byte more.
+    (Text::Padded(1_048_576), Status::Done, QUARTER_TEXT),
+    (
+        Text::Padded(1_048_577),
+        Status::SheetRefused,
+        b"prta: sheet refused 1\n",
     ),
 ];
 
-// The sheet of the quarter with one piece of its text replaced.
-pub fn changed(alloc: Global, old: &str, new: &str) -> Result<String, Fail> {
-    let (before, after) = QUARTER.split_once(old).ok_or("no such piece")?;
-    let mut sheet = String::from_str(alloc, before)?;
-    sheet.push_str(new)?;
-    sheet.push_str(after)?;
-    Ok(sheet)
+// The bytes of a file.
+pub fn bytes_of(alloc: Global, text: &Text) -> Result<Vec<u8>, Fail> {
+    match *text {
+        Text::Given(given) => Ok(Vec::from_slice(alloc, given)?),
+        Text::Changed(old, new) => changed(alloc, old, new),
+        Text::Padded(size) => {
+            let count = size.saturating_sub(QUARTER.len() + 1);
+            repeated(alloc, &[QUARTER, "#"], "x", count)
+        }
+        Text::Ones(count, end) => {
+            let mut bytes = repeated(alloc, &[], "1\n", count)?;
+            bytes.extend_from_slice(end.as_bytes())?;
+            Ok(bytes)
+        }
+    }
 }
 
-// The sheet of the quarter with a comment at its end, so many bytes long.
-pub fn padded(alloc: Global, size: usize) -> Result<Vec<u8>, Fail> {
-    let mut sheet = Vec::from_slice(alloc, QUARTER.as_bytes())?;
-    sheet.push(b'#')?;
-    for _ in sheet.len()..size {
-        sheet.push(b'x')?;
+fn changed(alloc: Global, old: &str, new: &str) -> Result<Vec<u8>, Fail> {
+    let (before, after) = QUARTER.split_once(old).ok_or("no such piece")?;
+    repeated(alloc, &[before, new, after], "", 0)
+}
+
+// The heads, and so many times a piece.
+fn repeated(alloc: Global, heads: &[&str], piece: &str, count: usize) -> Result<Vec<u8>, Fail> {
+    let mut bytes = Vec::new(alloc);
+    for head in heads {
+        bytes.extend_from_slice(head.as_bytes())?;
     }
-    Ok(sheet)
+    for _ in 0..count {
+        bytes.extend_from_slice(piece.as_bytes())?;
+    }
+    Ok(bytes)
 }

@@ -3,12 +3,12 @@ use crate::shelf::is_same;
 use std::alloc::Allocator;
 use std::fs::{Metadata, OpenFile, OpenOptions};
 use std::io;
-use std::io::{ErrorKind, Seek, SeekFrom, Write};
+use std::io::{ErrorKind, Read, Seek, SeekFrom, Write};
 use std::test::Fail;
 
 // A file system of four files, whose reads give three bytes at most.
 #[derive(Drop)]
-struct Disk;
+struct FourFiles;
 
 // What is left of an opened file, and how many reads serve.
 #[derive(Drop)]
@@ -66,7 +66,7 @@ impl OpenFile for Opened {
     }
 }
 
-impl Files for Disk {
+impl Files for FourFiles {
     type File = Opened;
 
     type Dir = Opened;
@@ -132,7 +132,7 @@ impl Files for Disk {
 
 #[test]
 fn reads_files(rt: HostRuntime) -> Result<(), Fail> {
-    let disk = Disk;
+    let disk = FourFiles;
     let mut shelf = FolderShelf::new(&disk, rt.alloc());
     let reads: [(&str, Result<&[u8], ShelfFault>); 6] = [
         ("dir/eight", Ok(b"12345678")),
@@ -146,7 +146,7 @@ fn reads_files(rt: HostRuntime) -> Result<(), Fail> {
         let answer = shelf.read(rt.alloc(), name, 8);
         assert!(rt; is_same(&answer, want), "read {i} of {name}");
     }
-    let failed = shelf.failed.names();
+    let failed = shelf.noted.names();
     assert_eq!(rt; failed.len(), 2);
     assert_eq!(rt; failed[0].as_str(), "dir/broken");
     assert_eq!(rt; failed[1].as_str(), "dir/missing");

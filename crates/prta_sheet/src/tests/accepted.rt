@@ -13,7 +13,7 @@ pub struct Parts {
     pub offset: u32,
     pub period: u32,
     pub deadline: u32,
-    pub points: &'static [(u32, u64)],
+    pub cycle: &'static [&'static [(u32, u64)]],
     pub allow: (u64, u64),
 }
 
@@ -45,7 +45,7 @@ pub const QUARTER_TASK: Parts = Parts {
     offset: 0,
     period: 10,
     deadline: 5,
-    points: &[(3, 3), (7, 1)],
+    cycle: &[&[(3, 3), (7, 1)]],
     allow: (0, 1),
 };
 
@@ -55,7 +55,7 @@ pub const PAIR: &[Parts] = &[
         offset: 0,
         period: 4,
         deadline: 4,
-        points: &[(1, 1), (2, 1)],
+        cycle: &[&[(1, 1), (2, 1)]],
         allow: (0, 1),
     },
     Parts {
@@ -63,12 +63,12 @@ pub const PAIR: &[Parts] = &[
         offset: 0,
         period: 8,
         deadline: 7,
-        points: &[(2, 1), (4, 1)],
+        cycle: &[&[(2, 1), (4, 1)]],
         allow: (0, 1),
     },
 ];
 
-const STATED: [Stated; 4] = [
+static STATED: [Stated; 5] = [
     Stated {
         text: QUARTER,
         settings: DEFAULTS,
@@ -97,7 +97,7 @@ const STATED: [Stated; 4] = [
             offset: 9,
             period: 10,
             deadline: 98,
-            points: &[(2, 4_294_967_295), (1_000_000, 1)],
+            cycle: &[&[(2, 4_294_967_295), (1_000_000, 1)]],
             allow: (1, 1_000_000_000_000_000_000),
         }],
         hyperperiod: 10,
@@ -122,6 +122,25 @@ const STATED: [Stated; 4] = [
         work: 160,
         canonical: b"format = 1\ncap = 12\nhyperperiods = 1\nturns = 16\n\n[[task]]\nname = \"A\"\noffset = 0\nperiod = 4\ndeadline = 4\ntimes = [[1, 1], [2, 1]]\nallow = [0, 1]\n\n[[task]]\nname = \"B\"\noffset = 0\nperiod = 8\ndeadline = 7\ntimes = [[2, 1], [4, 1]]\nallow = [0, 1]\n",
     },
+    // Two tables in turn: the second job has the second one.
+    Stated {
+        text: "format = 2\n[[task]]\nname = \"A\"\nperiod = 5\ndeadline = 5\ncycle = [[[3, 1], [6, 1]], [[2, 1]]]\n",
+        settings: DEFAULTS,
+        tasks: &[Parts {
+            name: "A",
+            offset: 0,
+            period: 5,
+            deadline: 5,
+            cycle: &[&[(3, 1), (6, 1)], &[(2, 1)]],
+            allow: (0, 1),
+        }],
+        hyperperiod: 10,
+        horizon: 10,
+        jobs: &[2],
+        all_jobs: 2,
+        work: 6_144,
+        canonical: b"format = 2\ncap = 2048\nhyperperiods = 1\nturns = 16\n\n[[task]]\nname = \"A\"\noffset = 0\nperiod = 5\ndeadline = 5\ncycle = [[[3, 1], [6, 1]], [[2, 1]]]\nallow = [0, 1]\n",
+    },
     // The only job of B ends past the horizon: both jobs of A after its release count, that at 20 too.
     Stated {
         text: "format = 1\ncap = 30\n[[task]]\nname = \"A\"\nperiod = 10\ndeadline = 1\ntimes = [[1, 1]]\n[[task]]\nname = \"B\"\noffset = 5\nperiod = 10\ndeadline = 16\ntimes = [[1, 1]]\n",
@@ -135,7 +154,7 @@ const STATED: [Stated; 4] = [
                 offset: 0,
                 period: 10,
                 deadline: 1,
-                points: &[(1, 1)],
+                cycle: &[&[(1, 1)]],
                 allow: (0, 1),
             },
             Parts {
@@ -143,7 +162,7 @@ const STATED: [Stated; 4] = [
                 offset: 5,
                 period: 10,
                 deadline: 16,
-                points: &[(1, 1)],
+                cycle: &[&[(1, 1)]],
                 allow: (0, 1),
             },
         ],
@@ -225,6 +244,19 @@ fn has_parts(task: &Task, want: &Parts) -> bool {
         && task.offset() == want.offset
         && task.period() == want.period
         && task.deadline() == want.deadline
-        && task.table().points() == want.points
+        && has_cycle(task, want.cycle)
         && task.allow() == want.allow
+}
+
+// The tables of the first jobs, in turn.
+fn has_cycle(task: &Task, cycle: &[&[(u32, u64)]]) -> bool {
+    if cycle.is_empty() || task.cycle().len() != cycle.len() {
+        return false;
+    }
+    for number in 0..40_u32 {
+        if task.table(number).points() != cycle[number as usize % cycle.len()] {
+            return false;
+        }
+    }
+    true
 }

@@ -6,17 +6,21 @@ use prta_mass::{Support, TableFault, TimeTable};
 use std::alloc::Global;
 use std::test::Fail;
 
+const ONE: &[(u32, u64)] = &[(1, 1)];
+
+const LONG: &[(u32, u64)] = &[(1_000_001, 1)];
+
 const SMALL: Parts = Parts {
     name: "A",
     offset: 0,
     period: 1,
     deadline: 1,
-    points: &[(1, 1)],
+    cycle: &[ONE],
     allow: (0, 1),
 };
 
 // Settings and tasks, and what refuses them.
-const MADE: [(Settings, &[Parts], Option<SheetFault>); 16] = [
+static MADE: [(Settings, &[Parts], Option<SheetFault>); 22] = [
     (DEFAULTS, PAIR, None),
     (
         Settings { cap: 2, ..DEFAULTS },
@@ -46,7 +50,7 @@ const MADE: [(Settings, &[Parts], Option<SheetFault>); 16] = [
     (
         DEFAULTS,
         &[Parts {
-            points: &[(1_000_001, 1)],
+            cycle: &[LONG],
             allow: (2, 1),
             ..SMALL
         }],
@@ -59,6 +63,48 @@ const MADE: [(Settings, &[Parts], Option<SheetFault>); 16] = [
             ..SMALL
         }],
         Some(SheetFault::OutOfRange(Place::Task(0), Key::Allow)),
+    ),
+    // A cycle of no tables, and one of 17.
+    (
+        DEFAULTS,
+        &[Parts {
+            cycle: &[],
+            ..SMALL
+        }],
+        Some(SheetFault::OutOfRange(Place::Task(0), Key::Cycle)),
+    ),
+    (
+        DEFAULTS,
+        &[Parts {
+            cycle: &[ONE; 17],
+            ..SMALL
+        }],
+        Some(SheetFault::OutOfRange(Place::Task(0), Key::Cycle)),
+    ),
+    (
+        DEFAULTS,
+        &[Parts {
+            cycle: &[ONE; 16],
+            ..SMALL
+        }],
+        None,
+    ),
+    (
+        DEFAULTS,
+        &[Parts {
+            cycle: &[ONE, LONG],
+            ..SMALL
+        }],
+        Some(SheetFault::OutOfRange(Place::Task(0), Key::Cycle)),
+    ),
+    // The greatest sum of weights.
+    (
+        DEFAULTS,
+        &[Parts {
+            cycle: &[&[(3, 281_474_976_710_656)]],
+            ..SMALL
+        }],
+        None,
     ),
     (DEFAULTS, &[], Some(SheetFault::TaskCount(0))),
     (
@@ -133,6 +179,16 @@ const MADE: [(Settings, &[Parts], Option<SheetFault>); 16] = [
         ],
         Some(SheetFault::HyperperiodTooLarge),
     ),
+    // Eleven tables: 1,100,000 ticks.
+    (
+        DEFAULTS,
+        &[Parts {
+            period: 100_000,
+            cycle: &[ONE; 11],
+            ..SMALL
+        }],
+        Some(SheetFault::HyperperiodTooLarge),
+    ),
     (
         Settings {
             hyperperiods: 2,
@@ -195,26 +251,29 @@ fn parts_have_their_answer(rt: HostRuntime) -> Result<(), Fail> {
 fn tasks_of(alloc: Global, parts: &[Parts]) -> Result<Vec<Task>, Fail> {
     let mut tasks = Vec::new(alloc);
     for part in parts {
-        let table = TimeTable::new(alloc, part.points)?;
-        let task = task_of(alloc, part, table)?;
+        let task = task_of(alloc, part)?;
         tasks.push(task.copy(alloc)?)?;
     }
     Ok(tasks)
 }
 
-fn task_of(alloc: Global, part: &Parts, table: TimeTable) -> Result<Task, Fail> {
+fn task_of(alloc: Global, part: &Parts) -> Result<Task, Fail> {
+    let mut cycle = Vec::new(alloc);
+    for points in part.cycle {
+        cycle.push(TimeTable::new(alloc, points)?)?;
+    }
     Ok(Task::new(
         alloc,
         part.name,
         part.offset,
         part.period,
         part.deadline,
-        table,
+        cycle,
         part.allow,
     )?)
 }
 
-const NUMBERS: [(SheetFault, u32); 18] = [
+static NUMBERS: [(SheetFault, u32); 18] = [
     (SheetFault::TooLong, 1),
     (SheetFault::NotToml, 2),
     (SheetFault::Format, 3),
@@ -237,7 +296,7 @@ const NUMBERS: [(SheetFault, u32); 18] = [
 
 #[test]
 fn a_condition_has_its_number(rt: HostRuntime) {
-    for (fault, want) in NUMBERS {
-        assert!(rt; fault.number() == want, "{want}");
+    for (fault, want) in NUMBERS.iter() {
+        assert!(rt; fault.number() == *want, "{want}");
     }
 }

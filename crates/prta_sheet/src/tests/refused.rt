@@ -12,9 +12,12 @@ pub const QUARTER: &str =
 type Change = (&'static str, &'static str, Option<SheetFault>);
 
 // One condition each.
-const CHANGES: [Change; 42] = [
+static CHANGES: [Change; 47] = [
     ("", "", None),
-    ("format = 1", "format = 2", Some(SheetFault::Format)),
+    ("format = 1", "format = 2", None),
+    ("format = 1", "format = 3", Some(SheetFault::Format)),
+    ("format = 1", "format = 0", Some(SheetFault::Format)),
+    ("format = 1", "format = -1", Some(SheetFault::Format)),
     ("format = 1", "format = true", Some(SheetFault::Format)),
     ("format = 1", "format = 1.0", Some(SheetFault::Format)),
     ("format = 1", "", Some(SheetFault::Format)),
@@ -159,9 +162,11 @@ const CHANGES: [Change; 42] = [
         Some(SheetFault::BadTable(0, TableFault::ZeroWeight(1))),
     ),
     ("[[3, 3], [7, 1]]", "[[3, 4294967296]]", None),
+    ("[3, 3]", "[3, 4294967296]", None),
+    ("[[3, 3], [7, 1]]", "[[3, 281474976710656]]", None),
     (
         "[3, 3]",
-        "[3, 4294967296]",
+        "[3, 281474976710656]",
         Some(SheetFault::TotalTooLarge(0)),
     ),
     ("format = 1", "format = 1\ncap = 7", None),
@@ -179,9 +184,9 @@ const CHANGES: [Change; 42] = [
 
 #[test]
 fn a_changed_sheet_has_its_answer(rt: HostRuntime) -> Result<(), Fail> {
-    for (old, new, want) in CHANGES {
+    for (old, new, want) in CHANGES.iter() {
         let sheet = changed(rt.alloc(), old, new)?;
-        assert!(rt; answer(rt.alloc(), sheet.as_bytes()) == want, "{new}");
+        assert!(rt; answer(rt.alloc(), sheet.as_bytes()) == *want, "{new}");
     }
     Ok(())
 }
@@ -201,7 +206,7 @@ fn changed(alloc: Global, old: &str, new: &str) -> Result<String, Fail> {
 }
 
 // Whole files: first those that state no tasks, then those where several conditions fail.
-const FILES: [(&[u8], Option<SheetFault>); 19] = [
+static FILES: [(&[u8], Option<SheetFault>); 35] = [
     (b"", Some(SheetFault::Format)),
     (b"\xff", Some(SheetFault::NotToml)),
     (b"format = 1\n[[task]", Some(SheetFault::NotToml)),
@@ -263,12 +268,80 @@ const FILES: [(&[u8], Option<SheetFault>); 19] = [
         Some(SheetFault::OffsetNotBelowPeriod(1)),
     ),
     (
-        b"format = 1\ntask = [{ name = \"A\", period = 1, deadline = 1, times = [[1, 4294967297]] }, { name = \"B\", period = 1, deadline = 1, times = [] }, { name = \"C\", period = 1, deadline = 1, times = [[0, 1]] }]\n",
+        b"format = 1\ntask = [{ name = \"A\", period = 1, deadline = 1, times = [[1, 281474976710657]] }, { name = \"B\", period = 1, deadline = 1, times = [] }, { name = \"C\", period = 1, deadline = 1, times = [[0, 1]] }]\n",
         Some(SheetFault::BadTable(1, TableFault::Empty)),
     ),
     (
-        b"format = 1\ncap = 3\ntask = [{ name = \"A\", period = 1, deadline = 2, times = [[1, 1]] }, { name = \"B\", period = 1, deadline = 1, times = [[1, 4294967297]] }]\n",
+        b"format = 1\ncap = 3\ntask = [{ name = \"A\", period = 1, deadline = 2, times = [[1, 1]] }, { name = \"B\", period = 1, deadline = 1, times = [[1, 281474976710657]] }]\n",
         Some(SheetFault::TotalTooLarge(1)),
+    ),
+    // Cycles: only in format 2, and only one of `times` and `cycle`.
+    (
+        b"format = 2\ntask = [{ name = \"A\", period = 5, deadline = 5, cycle = [[[3, 1], [6, 1]], [[2, 1]]] }]\n",
+        None,
+    ),
+    (
+        b"format = 2\ntask = [{ name = \"A\", period = 5, deadline = 5, cycle = [[[3, 1]]] }, { name = \"B\", period = 5, deadline = 5, times = [[2, 1]] }]\n",
+        None,
+    ),
+    (
+        b"format = 1\ntask = [{ name = \"A\", period = 5, deadline = 5, cycle = [[[3, 1], [6, 1]], [[2, 1]]] }]\n",
+        Some(SheetFault::UnknownKey(Place::Task(0))),
+    ),
+    (
+        b"format = 1\ntask = [{ name = \"A\", period = 5, deadline = 5, times = [[2, 1]], cycle = [[[3, 1], [6, 1]], [[2, 1]]] }]\n",
+        Some(SheetFault::UnknownKey(Place::Task(0))),
+    ),
+    (
+        b"format = 2\ntask = [{ name = \"A\", period = 5, deadline = 5, times = [[2, 1]], cycle = [[[3, 1], [6, 1]], [[2, 1]]] }]\n",
+        Some(SheetFault::UnknownKey(Place::Task(0))),
+    ),
+    (
+        b"format = 2\ntask = [{ name = \"A\", period = 5, deadline = 5 }]\n",
+        Some(SheetFault::MissingKey(Place::Task(0), Key::Times)),
+    ),
+    (
+        b"format = 2\ntask = [{ name = \"A\", period = 5, deadline = 5, cycle = [[3, 1], [6, 1]] }]\n",
+        Some(SheetFault::WrongKind(Place::Task(0), Key::Cycle)),
+    ),
+    (
+        b"format = 2\ntask = [{ name = \"A\", period = 5, deadline = 5, cycle = [[[3, 1]], [[2, 1, 1]]] }]\n",
+        Some(SheetFault::WrongKind(Place::Task(0), Key::Cycle)),
+    ),
+    (
+        b"format = 2\ntask = [{ name = \"A\", period = 5, deadline = 5, cycle = [] }]\n",
+        Some(SheetFault::OutOfRange(Place::Task(0), Key::Cycle)),
+    ),
+    (
+        b"format = 2\ntask = [{ name = \"A\", period = 5, deadline = 5, cycle = [[[1, 1]], [[1_000_001, 1]]] }]\n",
+        Some(SheetFault::OutOfRange(Place::Task(0), Key::Cycle)),
+    ),
+    (
+        b"format = 2\ntask = [{ name = \"A\", period = 5, deadline = 5, cycle = [[[1_000_001, 1]]] }]\n",
+        Some(SheetFault::OutOfRange(Place::Task(0), Key::Cycle)),
+    ),
+    // Sixteen tables, and seventeen.
+    (
+        b"format = 2\ntask = [{ name = \"A\", period = 5, deadline = 5, cycle = [[[1, 1]], [[1, 1]], [[1, 1]], [[1, 1]], [[1, 1]], [[1, 1]], [[1, 1]], [[1, 1]], [[1, 1]], [[1, 1]], [[1, 1]], [[1, 1]], [[1, 1]], [[1, 1]], [[1, 1]], [[1, 1]]] }]\n",
+        None,
+    ),
+    (
+        b"format = 2\ntask = [{ name = \"A\", period = 5, deadline = 5, cycle = [[[1, 1]], [[1, 1]], [[1, 1]], [[1, 1]], [[1, 1]], [[1, 1]], [[1, 1]], [[1, 1]], [[1, 1]], [[1, 1]], [[1, 1]], [[1, 1]], [[1, 1]], [[1, 1]], [[1, 1]], [[1, 1]], [[1, 1]]] }]\n",
+        Some(SheetFault::OutOfRange(Place::Task(0), Key::Cycle)),
+    ),
+    // The first table with a fault; shapes go before weights, over all tasks.
+    (
+        b"format = 2\ntask = [{ name = \"A\", period = 5, deadline = 5, cycle = [[[1, 281474976710657]], [[1, 1]]] }, { name = \"B\", period = 5, deadline = 5, cycle = [[[1, 1]], [[2, 1], [1, 1]], []] }]\n",
+        Some(SheetFault::BadTable(1, TableFault::NotIncreasing(1))),
+    ),
+    (
+        b"format = 2\ntask = [{ name = \"A\", period = 5, deadline = 5, times = [[1, 1]] }, { name = \"B\", period = 5, deadline = 5, cycle = [[[1, 1]], [[1, 281474976710657]]] }]\n",
+        Some(SheetFault::TotalTooLarge(1)),
+    ),
+    // Eleven times a period of 100,000.
+    (
+        b"format = 2\ntask = [{ name = \"A\", period = 100000, deadline = 5, cycle = [[[1, 1]], [[1, 1]], [[1, 1]], [[1, 1]], [[1, 1]], [[1, 1]], [[1, 1]], [[1, 1]], [[1, 1]], [[1, 1]], [[1, 1]]] }]\n",
+        Some(SheetFault::HyperperiodTooLarge),
     ),
 ];
 
@@ -304,7 +377,7 @@ fn padded(alloc: Global, size: usize) -> Result<Vec<u8>, Fail> {
 
 // Sheets whose first task has many points: the text before its times, their number, their common weight, the text after
 // them, and the answer.
-const LONG: [(&str, u32, u64, &str, Option<SheetFault>); 6] = [
+static LONG: [(&str, u32, u64, &str, Option<SheetFault>); 6] = [
     (
         "format = 1\n[[task]]\nname = \"A\"\nperiod = 10\ndeadline = 5\ntimes = [",
         32,
@@ -322,14 +395,14 @@ const LONG: [(&str, u32, u64, &str, Option<SheetFault>); 6] = [
     (
         "format = 1\n[[task]]\nname = \"A\"\nperiod = 10\ndeadline = 5\ntimes = [",
         32,
-        134_217_728,
+        8_796_093_022_208,
         "]\n",
         None,
     ),
     (
         "format = 1\n[[task]]\nname = \"A\"\nperiod = 10\ndeadline = 5\ntimes = [",
         32,
-        134_217_729,
+        8_796_093_022_209,
         "]\n",
         Some(SheetFault::TotalTooLarge(0)),
     ),
@@ -352,10 +425,10 @@ const LONG: [(&str, u32, u64, &str, Option<SheetFault>); 6] = [
 
 #[test]
 fn a_sheet_of_many_points_has_its_answer(rt: HostRuntime) -> Result<(), Fail> {
-    for (before, count, weight, after, want) in LONG {
-        let sheet = with_points(rt.alloc(), before, count, weight, after)?;
+    for (before, count, weight, after, want) in LONG.iter() {
+        let sheet = with_points(rt.alloc(), before, *count, *weight, after)?;
         assert!(rt;
-            answer(rt.alloc(), sheet.as_bytes()) == want,
+            answer(rt.alloc(), sheet.as_bytes()) == *want,
             "{count} points of weight {weight}"
         );
     }
@@ -381,7 +454,7 @@ fn with_points(
 
 // Sheets whose tasks have only a period, a deadline of 1 and one point: the text before the tasks, the periods, and the
 // answer.
-const PERIODS: [(&str, &[u32], Option<SheetFault>); 9] = [
+static PERIODS: [(&str, &[u32], Option<SheetFault>); 9] = [
     // The tasks are just as many as may be, and then one more.
     ("format = 1\n", &[1, 1, 1, 1, 1, 1, 1, 1, 1, 1, 1, 1], None),
     (

@@ -18,14 +18,15 @@ const SETTINGS: Settings = Settings {
     support: None,
 };
 
-const NAMES: [&str; 3] = ["A", "B", "C"];
+static NAMES: [&str; 3] = ["A", "B", "C"];
 
 // A sheet of at most three tasks, each with its offset and period.
 fn sheet_of(alloc: Global, tasks: &[(u32, u32)]) -> Result<Sheet, Fail> {
     let mut made = Vec::new(alloc);
-    for ((offset, period), name) in tasks.iter().zip(NAMES) {
-        let table = TimeTable::new(alloc, &[(1, 1), (2, 1)])?;
-        made.push(Task::new(alloc, name, *offset, *period, 7, table, (0, 1))?)?;
+    for ((offset, period), name) in tasks.iter().zip(NAMES.iter()) {
+        let mut cycle = Vec::new(alloc);
+        cycle.push(TimeTable::new(alloc, &[(1, 1), (2, 1)])?)?;
+        made.push(Task::new(alloc, name, *offset, *period, 7, cycle, (0, 1))?)?;
     }
     Ok(make_sheet(SETTINGS, made)?)
 }
@@ -53,7 +54,7 @@ struct Case {
     finishes: &'static [u64],
 }
 
-const CASES: [Case; 15] = [
+static CASES: [Case; 15] = [
     Case {
         name: "a release at 4 delays the low job",
         tasks: &[(0, 4), (0, 8)],
@@ -181,11 +182,11 @@ fn try_case(rt: &impl Abort, alloc: Global, case: &Case) -> Result<(), Fail> {
     let order = Order::new(alloc, &sheet, case.order)?;
     let jobs = jobs_before(alloc, &sheet, case.before as u64)?;
     assert!(rt; are_times(case.times), "{}", case.name);
-    assert_eq!(rt; case.times.len(), jobs.list().len(), "{}", case.name);
-    assert_eq!(rt; case.finishes.len(), jobs.list().len(), "{}", case.name);
+    assert!(rt; case.times.len() == jobs.list().len(), "{}", case.name);
+    assert!(rt; case.finishes.len() == jobs.list().len(), "{}", case.name);
     for (i, want) in case.finishes.iter().enumerate() {
         let finish = finish_by_backlog(&sheet, &order, &jobs, case.times, i);
-        assert_eq!(rt; finish, *want, "{}: job {i}", case.name);
+        assert!(rt; finish == *want, "{}: job {i}", case.name);
     }
     Ok(())
 }

@@ -3,7 +3,7 @@ use Rattle.std.proofs.lemmas.List.{get_or_default}
 use Rattle.prta_sheet.specs.Sheet.{Task, task_at}
 use Rattle.prta_sheet.specs.Counts.{releases}
 use Rattle.prta_jobs.specs.TaskSet.{holds}
-use Rattle.prta_jobs.specs.Small.{IsSmall}
+use Rattle.prta_jobs.specs.Ranges.{HasShortPeriod}
 use Rattle.prta_jobs.specs.Instant.{IsNextRelease}
 use Rattle.prta_jobs.proofs.NextRelease.{next_release_is, next_release_near}
 use Rattle.prta_jobs.proofs.Levels.{IsLeastSoFar, least_with, least_without, least_found, least_before}
@@ -30,20 +30,20 @@ returns-clause-least c =
     let tasks : List Task = c.args.tasks.now in
     let k : ℕ = c.requires.some.0 in
     let low : k < length tasks = c.requires.on_sheet k c.requires.some.1 in
-    let small : IsSmall (task_at tasks k) = c.requires.small.each k _ low in
+    let own : HasShortPeriod (task_at tasks k) = c.requires.sheet.each k _ low in
     let next : ℕ = (task_at tasks k).offset + releases (task_at tasks k) c.args.from * (task_at tasks k).period in
     least_found tasks (holds c.args.level) c.args.from c.loop-i.i c.loop-i.least c.requires.on_sheet c.loop-i.invariant c.loop-i-test.false
-    k c.requires.some.1 next (next_release_is (task_at tasks k) c.args.from next (omega arith) refl) (omega (arith, next_release_near (task_at tasks k) c.args.from small.offset))
+    k c.requires.some.1 next (next_release_is (task_at tasks k) c.args.from next (omega arith) refl) (omega (arith, next_release_near (task_at tasks k) c.args.from own.offset))
 
 pub returns-clause-near : goal.returns-clause-near
 returns-clause-near c =
     let tasks : List Task = c.args.tasks.now in
     let k : ℕ = c.requires.some.0 in
     let low : k < length tasks = c.requires.on_sheet k c.requires.some.1 in
-    let small : IsSmall (task_at tasks k) = c.requires.small.each k _ low in
+    let own : HasShortPeriod (task_at tasks k) = c.requires.sheet.each k _ low in
     let next : ℕ = (task_at tasks k).offset + releases (task_at tasks k) c.args.from * (task_at tasks k).period in
     omega (
       arith,
       least_before tasks (holds c.args.level) c.args.from c.loop-i.least (returns-clause-least c) k c.requires.some.1 next (next_release_is (task_at tasks k) c.args.from next (omega arith) refl),
-      next_release_near (task_at tasks k) c.args.from small.offset,
+      next_release_near (task_at tasks k) c.args.from own.offset,
     )

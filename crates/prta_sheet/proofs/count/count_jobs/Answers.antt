@@ -9,4 +9,4 @@ returns c =
     let past : length c.args.tasks.now ≤ c.loop-task.task-index = omega arith in
     c.loop-task.invariant.0
     ∙ ap (λ tasks. sum_by (λ (task : Task). c.args.hyperperiods * c.args.hyperperiod / task.period) tasks) (take_all c.loop-task.task-index c.args.tasks.now past)
-    ∙ jobs_before_end c.args.tasks.now c.requires.offsets c.args.hyperperiods c.args.hyperperiod c.requires.hyperperiod
+    ∙ jobs_before_end c.args.tasks.now c.requires.offsets c.requires.cycles c.args.hyperperiods c.args.hyperperiod c.requires.hyperperiod

@@ -1,4 +1,5 @@
-use Rattle.std.proofs.Common.{◌*◌, ◌≤◌, length, ap, sym, ◌∙◌, subst}
+use Rattle.std.proofs.Common.{◌*◌, ◌≤◌, length, get_or, ap, sym, ◌∙◌, subst}
+use Rattle.std.proofs.lemmas.Nat.{mul-le}
 use Rattle.prta_sheet.specs.declared.limits.TheConstants.{PERIOD_LIMIT, JOB_LIMIT, WORK_LIMIT}
 use Rattle.prta_sheet.specs.Sheet.{Sheet}
 use Rattle.prta_sheet.specs.Job.{jobs_before}
@@ -15,17 +16,19 @@ returns-in-Some-deadline_fault-clause-refused c =
     let made = c.part_ranges.ensures.tables c.in_default.is in
     past_tables sheet ranges head made ∙ first_some _ (load_of sheet) c.in-Some-deadline_fault.fault (sym c.deadline_fault.ensures ∙ c.in-Some-deadline_fault.is)
 
-pub hyperperiod_within-requires-clause-periods : goal.hyperperiod_within-requires-clause-periods
-hyperperiod_within-requires-clause-periods c =
+pub hyperperiod_within-requires-clause-some : goal.hyperperiod_within-requires-clause-some
+hyperperiod_within-requires-clause-some c =
     let sheet : Sheet = record { settings = c.args.settings; tasks = c.args.tasks.now } in
     let ranges = sym c.part_ranges.ensures.ranges ∙ c.in_default.is in
-    λ k d low. (tasks_within sheet ranges k d low).period_low
+    λ k d low.
+    let within = tasks_within sheet ranges k d low in
+    mul-le 1 1 (get_or sheet.tasks k d).period (length (get_or sheet.tasks k d).cycle) within.period_low within.cycle_low
 
-pub hyperperiod_within-requires-clause-short : goal.hyperperiod_within-requires-clause-short
-hyperperiod_within-requires-clause-short c =
+pub hyperperiod_within-requires-clause-few : goal.hyperperiod_within-requires-clause-few
+hyperperiod_within-requires-clause-few c =
     let sheet : Sheet = record { settings = c.args.settings; tasks = c.args.tasks.now } in
     let ranges = sym c.part_ranges.ensures.ranges ∙ c.in_default.is in
-    λ k d low. (tasks_within sheet ranges k d low).period_high
+    λ k d low. (tasks_within sheet ranges k d low).cycle_high
 
 pub returns-in-None-clause-refused : goal.returns-in-None-clause-refused
 returns-in-None-clause-refused c =
@@ -40,6 +43,12 @@ pub count_jobs-jobs-requires-clause-offsets : goal.count_jobs-jobs-requires-clau
 count_jobs-jobs-requires-clause-offsets c =
     let head = sym c.head_fault.ensures ∙ c.in_default-head_fault.is in
     early_offsets c.args.tasks.now (head_parts c.args.tasks.now head).2
+
+pub count_jobs-jobs-requires-clause-cycles : goal.count_jobs-jobs-requires-clause-cycles
+count_jobs-jobs-requires-clause-cycles c =
+    let sheet : Sheet = record { settings = c.args.settings; tasks = c.args.tasks.now } in
+    let ranges = sym c.part_ranges.ensures.ranges ∙ c.in_default.is in
+    λ k d low. (tasks_within sheet ranges k d low).cycle_low
 
 pub returns-then-jobs-clause-refused : goal.returns-then-jobs-clause-refused
 returns-then-jobs-clause-refused c =

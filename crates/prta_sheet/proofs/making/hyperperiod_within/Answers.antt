@@ -1,5 +1,5 @@
 use Rattle.std.proofs.Common.{◌+◌, ◌<◌, length, ap, ap₂, sym, ◌∙◌, arith}
-use Rattle.prta_sheet.specs.Sheet.{Task, least_common_multiple}
+use Rattle.prta_sheet.specs.Sheet.{cycle_ticks, least_common_multiple}
 use Rattle.prta_sheet.proofs.Multiples.{hyperperiod_of_fewer, hyperperiod_more}
 use Rattle.prta_sheet.proofs.making.hyperperiod_within.Goals as goal
 
@@ -10,7 +10,7 @@ returns-in-None-clause-above c =
     let i = c.loop-task.task-index in
     let low : i < length tasks = omega arith in
     let above = c.joint_multiple.ensures.above c.in-None.is in
-    let fewer = hyperperiod_of_fewer tasks (i + 1) c.requires.periods in
-    let period = c.period.ensures ∙ ap (λ (task : Task). task.period) c.task-item.is in
-    let same = ap₂ least_common_multiple c.loop-task.invariant.0 period ∙ sym (hyperperiod_more tasks i c.task-item.result low) in
+    let fewer = hyperperiod_of_fewer tasks (i + 1) c.requires.some in
+    let ticks = c.cycle_ticks.ensures ∙ ap cycle_ticks c.task-item.is in
+    let same = ap₂ least_common_multiple c.loop-task.invariant.0 ticks ∙ sym (hyperperiod_more tasks i c.task-item.result low) in
     omega (arith, above, same, fewer)

@@ -1,6 +1,6 @@
 use Rattle.std.proofs.Common.{◌<◌, sym, subst, arith}
 use Rattle.prta_sheet.specs.declared.limits.TheConstants.{PERIOD_LIMIT}
-use Rattle.prta_sheet.proofs.Multiples.{multiple_at, never_past}
+use Rattle.prta_sheet.proofs.Multiples.{multiple_at, never_past, second_within}
 use Rattle.prta_sheet.proofs.making.joint_multiple.Goals as goal
 
 pub returns-then-n-clause-found : goal.returns-then-n-clause-found
@@ -11,3 +11,6 @@ returns-else-n-clause-above c = λ none. subst (λ n. PERIOD_LIMIT < n) (sym (mu
 
 pub returns-clause-above : goal.returns-clause-above
 returns-clause-above c = λ none. absurd (never_past c.args.a c.args.b (omega arith) (λ j low. c.loop-k.invariant j (omega arith)))
+
+pub returns-then-b-clause-above : goal.returns-then-b-clause-above
+returns-then-b-clause-above c = λ none. omega (arith, c.if-b.true, second_within c.args.a c.args.b c.requires.start c.requires.some)

@@ -1,4 +1,4 @@
-use Rattle.prta_sheet.proofs.Releases.{releases_before}
+use Rattle.prta_sheet.proofs.JobSums.{releases_before}
 use Rattle.prta_sheet.proofs.model.releases_before.Goals as goal
 
 pub returns : goal.returns

@@ -13,7 +13,7 @@ returns-in-Some c =
     let i = c.loop-i.i in
     let long = length-map c.args.tables.now task_read in
     let here = task_at_map task_read c.args.tables.now i c.index-tables-i.result c.loop-i-test.true c.index-tables-i.is in
-    let fault = fault_at tasks i (task_read c.index-tables-i.result) c.deref.result.now c.shape_fault.result here (c.deref.ensures.value ∙ c.in_ok-points.ensures) c.shape_fault.ensures.fault in
+    let fault = fault_at tasks i (task_read c.index-tables-i.result) (map (λ points. points.items) c.deref.result.now) c.first_shape_fault.result here (ap (map (λ points. points.items)) c.deref.ensures.value ∙ c.in_ok-cycle.ensures) c.first_shape_fault.ensures in
     sym (first_of_range (table_fault_at tasks) 0 (length tasks) i (BadTable i c.in-Some.fault) (omega arith) (omega (arith, long)) (λ k low high. c.loop-i.invariant k high) (fault ∙ ap (option_map (BadTable i)) c.in-Some.is))
 
 pub loop-i-preserved : goal.loop-i-preserved
@@ -21,7 +21,7 @@ loop-i-preserved c = λ k low.
     let tasks = map task_read c.args.tables.now in
     let i = c.loop-i.i in
     let here = task_at_map task_read c.args.tables.now i c.index-tables-i.result c.loop-i-test.true c.index-tables-i.is in
-    let fault = fault_at tasks i (task_read c.index-tables-i.result) c.deref.result.now c.shape_fault.result here (c.deref.ensures.value ∙ c.in_ok-points.ensures) c.shape_fault.ensures.fault in
+    let fault = fault_at tasks i (task_read c.index-tables-i.result) (map (λ points. points.items) c.deref.result.now) c.first_shape_fault.result here (ap (map (λ points. points.items)) c.deref.ensures.value ∙ c.in_ok-cycle.ensures) c.first_shape_fault.ensures in
     elim (cases_lt k i) [
       | inl earlier ↦ c.loop-i.invariant k earlier
       | inr now ↦ let same : k ≡ i = omega arith in ap (table_fault_at tasks) same ∙ fault ∙ ap (option_map (BadTable i)) c.in_default.is

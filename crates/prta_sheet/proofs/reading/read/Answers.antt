@@ -11,7 +11,7 @@ pub sheet_of_tables-requires : goal.sheet_of_tables-requires
 sheet_of_tables-requires c =
     let doc = table_view c.args.document.now in
     let whole = read_of_tables doc c.settings_of.result c.deref.result.now c.settings_of.ensures (ap (map (λ t. table_view t.now)) c.deref.ensures.value ∙ c.in-Ok.ensures) in
-    record { ranges = subst (λ (s : Sheet). part_ranges s ≡ None) (sym whole) (read_in_range doc) }
+    record { ranges = subst (λ (s : Sheet). part_ranges s ≡ None) (sym whole) (read_in_range doc c.requires) }
 
 pub returns-in-Ok-clause-read : goal.returns-in-Ok-clause-read
 returns-in-Ok-clause-read c =

@@ -1,10 +1,10 @@
-use Rattle.std.proofs.Common.{◌≡◌, true, false, Some, None, nat_lt, [], ◌∷◌, ◌++◌, map, take, get_or, refl, ap, ap₂, sym, ◌∙◌, subst, arith, inl, inr}
+use Rattle.std.proofs.Common.{◌≡◌, true, false, Some, None, [], ◌∷◌, ◌++◌, map, take, get_or, refl, ap, ap₂, sym, ◌∙◌, subst, arith, inl, inr}
 use Rattle.std.proofs.lemmas.List.{length-map, map-append, take_more}
 use Rattle.std.proofs.lemmas.Bool.{cases_lt}
-use Rattle.prta_mass.specs.Table.{shape_fault, total}
-use Rattle.prta_mass.specs.declared.table.TheConstants.{TOTAL_LIMIT}
+use Rattle.prta_mass.specs.Table.{shape_fault}
 use Rattle.prta_sheet.specs.Sheet.{Task}
-use Rattle.prta_sheet.proofs.ReadItems.{task_read, task_at_map, is_heavy_at, no_fault_at, first_heavy, none_heavy}
+use Rattle.prta_sheet.specs.DocumentConditions.{first_of}
+use Rattle.prta_sheet.proofs.ReadItems.{task_read, task_at_map, has_heavy, is_heavy_at, no_fault_at, first_heavy, none_heavy}
 use Rattle.prta_sheet.proofs.reading.tasks_of.Goals as goal
 
 pub weighed_task-requires : goal.weighed_task-requires
@@ -13,7 +13,7 @@ weighed_task-requires c =
     let i = c.loop-i.i in
     let long = length-map c.args.tables.now task_read in
     let here = task_at_map task_read c.args.tables.now i c.index-tables-i.result c.loop-i-test.true c.index-tables-i.is in
-    record { shape = subst (λ (task : Task). shape_fault task.table ≡ None) here (no_fault_at tasks i (omega (arith, long)) c.requires.shapes) }
+    record { shapes = subst (λ (task : Task). first_of shape_fault task.cycle ≡ None) here (no_fault_at tasks i (omega (arith, long)) c.requires.shapes) }
 
 pub returns-in-Err-clause-refused : goal.returns-in-Err-clause-refused
 returns-in-Err-clause-refused c = λ real.
@@ -21,7 +21,7 @@ returns-in-Err-clause-refused c = λ real.
     let i = c.loop-i.i in
     let long = length-map c.args.tables.now task_read in
     let here = task_at_map task_read c.args.tables.now i c.index-tables-i.result c.loop-i-test.true c.index-tables-i.is in
-    let heavy : is_heavy_at tasks i ≡ true = subst (λ (task : Task). nat_lt TOTAL_LIMIT (total task.table) ≡ true) (sym here) (c.in-Err.ensures.heavy real) in
+    let heavy : is_heavy_at tasks i ≡ true = subst (λ (task : Task). has_heavy task ≡ true) (sym here) (c.in-Err.ensures.heavy real) in
     first_heavy tasks i (omega (arith, long)) c.loop-i.invariant.light heavy ∙ ap Some (sym (c.in-Err.ensures.fault real))
 
 pub loop-i-preserved : goal.loop-i-preserved
@@ -31,7 +31,7 @@ loop-i-preserved c =
     let i = c.loop-i.i in
     let table = c.index-tables-i.result in
     let here = task_at_map task_read tables i table c.loop-i-test.true c.index-tables-i.is in
-    let light : is_heavy_at tasks i ≡ false = subst (λ (task : Task). nat_lt TOTAL_LIMIT (total task.table) ≡ false) (sym here) (c.in-Ok.ensures.light refl) in
+    let light : is_heavy_at tasks i ≡ false = subst (λ (task : Task). has_heavy task ≡ false) (sym here) (c.in-Ok.ensures.light refl) in
     record {
       made = c.in-Ok-push.ensures.items
           ∙ ap₂ (λ before (task : Task). before ++ task ∷ []) c.loop-i.invariant.made (c.in-Ok.ensures.made ∙ ap task_read c.index-tables-i.is)

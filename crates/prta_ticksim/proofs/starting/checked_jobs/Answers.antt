@@ -9,6 +9,9 @@ use Rattle.prta_ticksim.proofs.starting.checked_jobs.Goals as goal
 pub first_foreign-requires-clause-tasks : goal.first_foreign-requires-clause-tasks
 first_foreign-requires-clause-tasks c = rw (c.list.ensures, c.tasks.ensures.tasks, c.in-Ok.ensures) (λ i d low. (c.jobs_are_before.ensures c.args.sheet.now.tasks c.horizon_of.result i d low).task)
 
+pub first_foreign-requires-clause-cycles : goal.first_foreign-requires-clause-cycles
+first_foreign-requires-clause-cycles c = rw c.tasks.ensures.tasks (λ i d low. (c.horizon_of.ensures.accepted.tasks i d low).cycle_low)
+
 pub returns-clause-some : goal.returns-clause-some
 returns-clause-some c =
     let found = rw (c.tasks.ensures.tasks, c.list.ensures) at c.first_foreign.ensures in

@@ -3,7 +3,7 @@ use Rattle.prta_mass.specs.Table.{fault_of}
 use Rattle.prta_mass.proofs.Faults.{IsTable-from_none}
 use Rattle.prta_mass.proofs.table.TimeTable.new.Goals as goal
 
-pub invariant_of-result : goal.invariant_of-result
-invariant_of-result c =
+pub of_points-requires : goal.of_points-requires
+of_points-requires c =
     let none : fault_of c.args.pairs.now ≡ None = sym c.first_fault.ensures ∙ c.in_default.is in
     rw c.in-Ok.ensures.items (IsTable-from_none c.args.pairs.now none)

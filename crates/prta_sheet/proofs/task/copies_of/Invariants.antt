@@ -1,0 +1,6 @@
+-- the copies are equal to the tables so far
+use Rattle.std.proofs.Common.{◌≡◌, take}
+use Rattle.prta_sheet.proofs.task.copies_of.Given as goal
+
+abbrev pub invariant-loop-table : goal.invariant-loop-table
+invariant-loop-table l = l.copies.items ≡ take l.table-index l.tables
