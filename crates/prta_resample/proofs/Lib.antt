@@ -1,0 +1,5 @@
+pub mod Places
+pub mod Keeping
+pub mod Moving
+pub mod Upward
+pub mod Downward

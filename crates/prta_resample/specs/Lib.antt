@@ -1,0 +1,3 @@
+pub mod Resample
+pub mod Laws
+pub mod WorkedResamplings
