@@ -1,0 +1,9 @@
+pub mod Released
+pub mod Notes
+pub mod Steps
+pub mod Dominance
+pub mod Chances
+pub mod Additions
+pub mod Images
+pub mod Walks
+pub mod Counts

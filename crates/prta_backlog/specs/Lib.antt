@@ -1,0 +1,10 @@
+pub mod Level
+pub mod LevelRun
+pub mod Entries
+pub mod Greatest
+pub mod Room
+pub mod AreNoted
+pub mod Pass
+pub mod Bench
+pub mod Laws
+pub mod Worked

@@ -1,0 +1,4 @@
+pub mod Noted
+pub mod Sums
+pub mod LedgerState
+pub mod WorkedSums
