@@ -1,0 +1,16 @@
+pub mod Weighing
+pub mod Regrouping
+pub mod Shares
+pub mod Operations
+pub mod Backlogs
+pub mod Released
+pub mod Runs
+pub mod JobsFrom
+pub mod Responses
+pub mod Copies
+pub mod Numbers
+pub mod Starts
+pub mod Around
+pub mod EvenTasks
+pub mod DelaySteps
+pub mod DelayingJobs

@@ -1,0 +1,137 @@
+//! Response runs of worked sheets, on curves that keep every cell.
+
+ghost use Rattle.std.specs.Prelude.{vec_len, IfOk};
+ghost use Rattle.prta_response.specs.Fitting.{FitsCap};
+
+use super::*;
+use prta_backlog::{Bench, LevelPass};
+use prta_convplain::Plain;
+use prta_dist::{Curve, Dense};
+use prta_jobs::{TaskSet, jobs_before, release};
+use prta_ledger::{Entry, Kind, Ledger, NoNotes, Notes};
+use prta_mass::Dir::{self, Down, Up};
+use prta_mass::{NoMemory, UNIT};
+use prta_sheet::{Sheet, read_sheet};
+use std::alloc::Global;
+use std::test::Fail;
+
+const EIGHTH: u64 = 144_115_188_075_855_872;
+
+const QUARTER: u64 = 288_230_376_151_711_744;
+
+const HALF: u64 = 576_460_752_303_423_488;
+
+// Each 4 ticks a job of 1 or 2 ticks, above one of 2 or 4 ticks each 8 ticks, which is due 4 ticks after its release.
+const DUE_AT_4: &[u8] =
+    b"format = 1\ncap = 12\n[[task]]\nname = \"A\"\nperiod = 4\ndeadline = 4\ntimes = [[1, 1], [2, 1]]\n[[task]]\nname = \"B\"\nperiod = 8\ndeadline = 4\ntimes = [[2, 1], [4, 1]]\n";
+
+const DUE_AT_5: &[u8] =
+    b"format = 1\ncap = 12\n[[task]]\nname = \"A\"\nperiod = 4\ndeadline = 4\ntimes = [[1, 1], [2, 1]]\n[[task]]\nname = \"B\"\nperiod = 8\ndeadline = 5\ntimes = [[2, 1], [4, 1]]\n";
+
+const DUE_AT_7: &[u8] =
+    b"format = 1\ncap = 12\n[[task]]\nname = \"A\"\nperiod = 4\ndeadline = 4\ntimes = [[1, 1], [2, 1]]\n[[task]]\nname = \"B\"\nperiod = 8\ndeadline = 7\ntimes = [[2, 1], [4, 1]]\n";
+
+const DUE_AT_8: &[u8] =
+    b"format = 1\ncap = 12\n[[task]]\nname = \"A\"\nperiod = 4\ndeadline = 4\ntimes = [[1, 1], [2, 1]]\n[[task]]\nname = \"B\"\nperiod = 8\ndeadline = 8\ntimes = [[2, 1], [4, 1]]\n";
+
+// The first task's job takes 2 ticks in one of three cases.
+const THIRDS: &[u8] =
+    b"format = 1\ncap = 12\n[[task]]\nname = \"A\"\nperiod = 4\ndeadline = 4\ntimes = [[1, 2], [2, 1]]\n[[task]]\nname = \"B\"\nperiod = 8\ndeadline = 7\ntimes = [[2, 1], [4, 1]]\n";
+
+// The delay of the second task's first job by the first task's second one, where it is rounded.
+const DELAY_DOWN: Entry = Entry {
+    dir: Down,
+    kind: Kind::Delay,
+    task: 1,
+    job: 0,
+    op: 1,
+    amount: 1,
+};
+
+const DELAY_UP: Entry = Entry {
+    dir: Up,
+    kind: Kind::Delay,
+    task: 1,
+    job: 0,
+    op: 1,
+    amount: 1,
+};
+
+// A sheet and a direction; then the number of the second task's first job, and the entries of its delays.
+static NUMBERS: [(&[u8], Dir, u64, &[Entry]); 10] = [
+    (DUE_AT_4, Down, HALF, &[]),
+    (DUE_AT_4, Up, HALF, &[]),
+    (DUE_AT_5, Down, HALF, &[]),
+    (DUE_AT_5, Up, HALF, &[]),
+    (DUE_AT_7, Down, EIGHTH, &[]),
+    (DUE_AT_7, Up, EIGHTH, &[]),
+    (DUE_AT_8, Down, 0, &[]),
+    (DUE_AT_8, Up, 0, &[]),
+    (THIRDS, Down, 64_051_194_700_380_387, &[DELAY_DOWN]),
+    (THIRDS, Up, 64_051_194_700_380_388, &[DELAY_UP]),
+];
+
+#[test]
+fn numbers_and_delays(rt: HostRuntime) -> Result<(), Fail> {
+    for (text, dir, number, delays) in NUMBERS.iter() {
+        let sheet = read_sheet(rt.alloc(), text)?;
+        let mut bench = bench_of(rt.alloc(), &sheet)?;
+        let mut ledger = Ledger::with_room(rt.alloc(), 10)?;
+        let found = number_of(rt.alloc(), &mut bench, &sheet, *dir, &mut ledger)?;
+        assert!(rt; found == Some(*number));
+        assert!(rt; ledger.entries() == *delays);
+    }
+    Ok(())
+}
+
+#[test]
+fn the_main_curve_stays(rt: HostRuntime) -> Result<(), Fail> {
+    let sheet = read_sheet(rt.alloc(), DUE_AT_7)?;
+    let mut bench = bench_of(rt.alloc(), &sheet)?;
+    let found = number_of(rt.alloc(), &mut bench, &sheet, Up, &mut NoNotes)?;
+    assert!(rt; found == Some(EIGHTH));
+    // The backlog right after the first two jobs' release is 3 to 6 ticks, each with the chance a quarter.
+    for (k, cell) in [0, 0, 0, QUARTER, HALF, UNIT - QUARTER, UNIT]
+        .iter()
+        .enumerate()
+    {
+        assert!(rt; bench.main.at(k) == *cell);
+    }
+    Ok(())
+}
+
+fn bench_of(alloc: Global, sheet: &Sheet) -> Result<Bench<Dense<Plain>, Plain>, NoMemory>
+    ensures { IfOk result (λ bench. FitsCap sheet.now.settings.cap bench.main bench.spare bench.kept (vec_len bench.cells) (vec_len bench.tail) (vec_len bench.room)) }
+{
+    let _settings = sheet.settings();
+    let cap = sheet.cap();
+    let main = Dense::new(alloc, Plain, cap)?;
+    let spare = Dense::new(alloc, Plain, cap)?;
+    let kept = Dense::new(alloc, Plain, cap)?;
+    Bench::new(alloc, main, spare, kept, Plain)
+}
+
+// The number of the first job of the second task, below the first, where the sheet has one and there is room to note its
+// delays. The main curve is then the list from which its response run starts.
+fn number_of<N: Notes>(
+    alloc: Global,
+    bench: &mut Bench<Dense<Plain>, Plain>,
+    sheet: &Sheet,
+    dir: Dir,
+    notes: &mut N,
+) -> Result<Option<u64>, NoMemory>
+    requires { FitsCap sheet.now.settings.cap bench.old.main bench.old.spare bench.old.kept (vec_len bench.old.cells) (vec_len bench.old.tail) (vec_len bench.old.room) }
+{
+    if sheet.tasks().len() < 2 || sheet.job_count(1) == 0 {
+        return Ok(None);
+    }
+    let deadline = release(sheet, 1, 0) + sheet.tasks()[1].deadline() as u64;
+    let before = jobs_before(alloc, sheet, deadline)?;
+    if notes.spare() < before.list().len() {
+        return Ok(None);
+    }
+    let higher = TaskSet::below(1);
+    let mut pass = LevelPass::begin(bench, sheet, higher, 1, dir);
+    pass.step(bench, sheet, &mut NoNotes);
+    Ok(Some(UNIT - respond(bench, sheet, higher, 1, 0, dir, notes)))
+}
