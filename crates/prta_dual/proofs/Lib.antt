@@ -1,0 +1,11 @@
+pub mod Near
+pub mod Amounts
+pub mod NearRuns
+pub mod Stretches
+pub mod Sums
+pub mod Gap
+pub mod RoomSoFar
+pub mod Room
+pub mod OwnReleases
+pub mod Passing
+pub mod Writing

@@ -1,0 +1,5 @@
+pub mod Numbers
+pub mod Direction
+pub mod Entries
+pub mod Laws
+pub mod Worked

@@ -1,0 +1,14 @@
+//! Two numbers around the exact chance of each analysed job, and a ledger that bounds their difference.
+#![tactic(auto)]
+
+mod analyse;
+mod bounds;
+mod laws;
+#[cfg(test)]
+mod tests;
+mod worked;
+
+pub use analyse::analyse_task;
+pub use bounds::Bounds;
+pub use laws::{empty_ledger_is_exact, entries_have_room, gap_is_noted};
+pub use worked::worked_analyses;
