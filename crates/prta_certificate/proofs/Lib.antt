@@ -1,0 +1,11 @@
+pub mod Certifying
+pub mod Walks
+pub mod Units
+pub mod Wholeness
+pub mod Completeness
+pub mod Bounding
+pub mod Search
+pub mod Verdicts
+pub mod SheetLevels
+pub mod FirstJobs
+pub mod SteadyPass

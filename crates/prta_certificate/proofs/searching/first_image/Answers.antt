@@ -1,0 +1,22 @@
+use Rattle.std.proofs.Common.{◌≡◌, ℕ, suc, ◌+◌, arith, List, length, ap, sym, ◌∙◌}
+use Rattle.prta_sheet.specs.Sheet.{Task}
+use Rattle.prta_backlog.specs.Level.{Level}
+use Rattle.prta_certificate.specs.Certificate.{next_image, certifies, sheet_level}
+use Rattle.prta_certificate.specs.Candidates.{image_of_point}
+use Rattle.prta_certificate.proofs.Search.{one_more_fails}
+use Rattle.prta_certificate.proofs.searching.first_image.Goals as goal
+
+one_further : (tasks : List Task) (level : Level) (cap j : ℕ) → next_image tasks level (image_of_point tasks level cap j) ≡ image_of_point tasks level cap (j + 1)
+one_further tasks level cap j = let e : suc j ≡ j + 1 = omega arith in ap (image_of_point tasks level cap) e
+
+pub loop-turn-preserved : goal.loop-turn-preserved
+loop-turn-preserved g c =
+    let tasks : List Task = c.args.sheet.now.tasks in
+    let level : Level = sheet_level c.args.task in
+    let inv = c.loop-turn.invariant in (
+      c.go_on.ensures.caps,
+      c.go_on.ensures.cap ∙ ap length c.is_certified.ensures.main ∙ inv.1,
+      c.go_on.ensures.main ∙ ap (next_image tasks level) (c.is_certified.ensures.main ∙ inv.2) ∙ one_further tasks level c.args.sheet.now.settings.cap c.loop-turn.turn,
+      one_more_fails (certifies tasks level) (image_of_point tasks level c.args.sheet.now.settings.cap) c.loop-turn.turn inv.3
+          (ap (certifies tasks level) (sym inv.2) ∙ sym c.is_certified.ensures.test ∙ c.if-is_certified.false),
+    )

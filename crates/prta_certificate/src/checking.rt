@@ -1,0 +1,36 @@
+//! Whether a list is a certificate.
+
+ghost use Rattle.std.specs.Prelude.{◌≡◌, ◌↔◌, ◌<◌, None, length};
+ghost use Rattle.prta_mass.specs.Chances.{IsWhole};
+ghost use Rattle.prta_backlog.specs.Bench.{HaveOneCap};
+ghost use Rattle.prta_certificate.specs.Certificate.{Certifies, broken_at, sheet_level};
+
+use prta_backlog::{Bench, image};
+use prta_dist::{Break, Curve, Kernel};
+use prta_jobs::TaskSet;
+use prta_sheet::Sheet;
+
+/// The first place where the image of the main curve is below it, on the level of the task in the sheet's order, with both
+/// cells. There is none exactly where the main curve, which is whole, certifies the level. It and the spare curve
+/// stay; the kept curve holds anything afterwards.
+pub fn check<C: Curve, K: Kernel>(
+    bench: &mut Bench<C, K>,
+    sheet: &Sheet,
+    task: usize,
+) -> Option<Break>
+    requires task { task < length sheet.now.tasks }
+    requires caps { HaveOneCap (C.cells bench.old.main) (C.cells bench.old.spare) (C.cells bench.old.kept) }
+    requires whole { IsWhole (C.cells bench.old.main) }
+    ensures first { result ≡ broken_at sheet.now.tasks (sheet_level task) (C.cells bench.old.main) }
+    ensures none { (result ≡ None) ↔ Certifies sheet.now.tasks (sheet_level task) (C.cells bench.old.main) }
+    ensures main { C.cells bench.new.main ≡ C.cells bench.old.main }
+    ensures spare { C.cells bench.new.spare ≡ C.cells bench.old.spare }
+    ensures caps { HaveOneCap (C.cells bench.new.main) (C.cells bench.new.spare) (C.cells bench.new.kept) }
+{
+    let _tasks = sheet.tasks();
+    bench.keep();
+    image(bench, sheet, TaskSet::below(task), task);
+    let found = bench.kept_break();
+    bench.take_back();
+    found
+}

@@ -1,0 +1,166 @@
+//! The search for a certificate.
+
+ghost use Rattle.std.specs.Prelude.{◌≡◌, ◌<◌, true, length, IfSome};
+ghost use Rattle.prta_mass.specs.Chances.{point};
+ghost use Rattle.prta_backlog.specs.Bench.{HaveOneCap};
+ghost use Rattle.prta_backlog.specs.Greatest.{worst_backlog as worst_backlog_of};
+ghost use Rattle.prta_dist.specs.Curve.{lower as lower_of};
+ghost use Rattle.prta_certificate.specs.Certificate.{next_image, certifies, sheet_level};
+ghost use Rattle.prta_certificate.specs.Candidates.{image_of_point, lowered, slack, verdict_of, list_of};
+ghost use Rattle.prta_certificate.specs.Search.{ImagesTried, LoweredTried};
+
+use crate::checking::check;
+use crate::laws::search_decides;
+use crate::verdict::Verdict;
+use prta_backlog::{Bench, greatest_work, image, peak, worst_backlog};
+use prta_dist::{Curve, Kernel};
+use prta_jobs::TaskSet;
+use prta_mass::UNIT;
+use prta_sheet::Sheet;
+
+/// Searches a certificate for the level of the task in the sheet's order: the first of the lists that are tried is left on the
+/// main curve. The spare and the kept curve hold anything afterwards.
+pub fn find<C: Curve, K: Kernel>(bench: &mut Bench<C, K>, sheet: &Sheet, task: usize) -> Verdict
+    requires task { task < length sheet.now.tasks }
+    requires caps { HaveOneCap (C.cells bench.old.main) (C.cells bench.old.spare) (C.cells bench.old.kept) }
+    requires cap { length (C.cells bench.old.main) ≡ sheet.now.settings.cap }
+    ensures verdict { result ≡ verdict_of sheet.now.tasks (sheet_level task) sheet.now.settings.cap sheet.now.settings.turns }
+    ensures list { IfSome (list_of sheet.now.tasks (sheet_level task) sheet.now.settings.cap sheet.now.settings.turns result) (λ cells. C.cells bench.new.main ≡ cells) }
+    ensures caps { HaveOneCap (C.cells bench.new.main) (C.cells bench.new.spare) (C.cells bench.new.kept) }
+{
+    search_decides();
+    let _tasks = sheet.tasks();
+    let higher = TaskSet::below(task);
+    let work = greatest_work(sheet, higher, task);
+    let hyperperiod = sheet.hyperperiod();
+    if work > hyperperiod {
+        return Verdict::OverFull { work, hyperperiod };
+    }
+    let peak = peak(sheet, higher, task);
+    if peak >= sheet.cap() as u64 {
+        return Verdict::BeyondCap { peak };
+    }
+    if let Some(turn) = first_image(bench, sheet, task) {
+        return Verdict::Turn(turn);
+    }
+    Verdict::Slack(first_lowered(bench, sheet, task))
+}
+
+// The first of the images 0 to `turns` of the point at 0 that certifies the level; it is left on the main curve, or else the
+// last of them is.
+fn first_image<C: Curve, K: Kernel>(
+    bench: &mut Bench<C, K>,
+    sheet: &Sheet,
+    task: usize,
+) -> Option<u32>
+    requires task { task < length sheet.now.tasks }
+    requires caps { HaveOneCap (C.cells bench.old.main) (C.cells bench.old.spare) (C.cells bench.old.kept) }
+    requires cap { length (C.cells bench.old.main) ≡ sheet.now.settings.cap }
+    ensures tried { ImagesTried sheet.now.tasks (sheet_level task) sheet.now.settings.cap sheet.now.settings.turns (C.cells bench.new.main) result }
+    ensures caps { HaveOneCap (C.cells bench.new.main) (C.cells bench.new.spare) (C.cells bench.new.kept) }
+    ensures cap { length (C.cells bench.new.main) ≡ sheet.now.settings.cap }
+{
+    let turns = sheet.settings().turns;
+    start_at_point(bench);
+    for turn in 0..turns {
+        if is_certified(bench, sheet, task) {
+            return Some(turn);
+        }
+        go_on(bench, sheet, task);
+    }
+    if is_certified(bench, sheet, task) {
+        Some(turns)
+    } else {
+        None
+    }
+}
+
+// Makes the main curve the point at 0.
+fn start_at_point<C: Curve, K: Kernel>(bench: &mut Bench<C, K>)
+    requires caps { HaveOneCap (C.cells bench.old.main) (C.cells bench.old.spare) (C.cells bench.old.kept) }
+    ensures main { C.cells bench.new.main ≡ point (length (C.cells bench.old.main)) 0 }
+    ensures cap { length (C.cells bench.new.main) ≡ length (C.cells bench.old.main) }
+    ensures caps { HaveOneCap (C.cells bench.new.main) (C.cells bench.new.spare) (C.cells bench.new.kept) }
+{
+    let _cap = bench.main.cap();
+    bench.main.point(0);
+}
+
+// Makes the main curve its image on the level.
+fn go_on<C: Curve, K: Kernel>(bench: &mut Bench<C, K>, sheet: &Sheet, task: usize)
+    requires task { task < length sheet.now.tasks }
+    requires caps { HaveOneCap (C.cells bench.old.main) (C.cells bench.old.spare) (C.cells bench.old.kept) }
+    ensures main { C.cells bench.new.main ≡ next_image sheet.now.tasks (sheet_level task) (C.cells bench.old.main) }
+    ensures cap { length (C.cells bench.new.main) ≡ length (C.cells bench.old.main) }
+    ensures caps { HaveOneCap (C.cells bench.new.main) (C.cells bench.new.spare) (C.cells bench.new.kept) }
+{
+    let _tasks = sheet.tasks();
+    image(bench, sheet, TaskSet::below(task), task);
+}
+
+// The first of the sixteen numbers that, taken off the main curve below the worst-case backlog, makes it certify the level; so
+// lowered it is left. The last of them needs no test.
+fn first_lowered<C: Curve, K: Kernel>(bench: &mut Bench<C, K>, sheet: &Sheet, task: usize) -> u64
+    requires task { task < length sheet.now.tasks }
+    requires caps { HaveOneCap (C.cells bench.old.main) (C.cells bench.old.spare) (C.cells bench.old.kept) }
+    requires fits { worst_backlog_of sheet.now.tasks (sheet_level task) < length (C.cells bench.old.main) }
+    requires main { C.cells bench.old.main ≡ image_of_point sheet.now.tasks (sheet_level task) sheet.now.settings.cap sheet.now.settings.turns }
+    requires last { certifies sheet.now.tasks (sheet_level task) (lowered sheet.now.tasks (sheet_level task) sheet.now.settings.cap sheet.now.settings.turns (slack 15)) ≡ true }
+    ensures tried { LoweredTried sheet.now.tasks (sheet_level task) sheet.now.settings.cap sheet.now.settings.turns (C.cells bench.new.main) result }
+    ensures caps { HaveOneCap (C.cells bench.new.main) (C.cells bench.new.spare) (C.cells bench.new.kept) }
+{
+    let worst = worst_of(sheet, task);
+    bench.set_aside();
+    for n in 0..15u32 {
+        let slack = slack_of(n);
+        lower_spare(bench, slack, worst);
+        if is_certified(bench, sheet, task) {
+            return slack;
+        }
+    }
+    lower_spare(bench, UNIT, worst);
+    UNIT
+}
+
+// The number of this place among those that are taken off.
+fn slack_of(n: u32) -> u64
+    requires n { n < 16 }
+    ensures { result ≡ slack n }
+{
+    1 << (4 * n)
+}
+
+// The worst-case backlog of the level, in ticks.
+fn worst_of(sheet: &Sheet, task: usize) -> usize
+    requires task { task < length sheet.now.tasks }
+    ensures { result ≡ worst_backlog_of sheet.now.tasks (sheet_level task) }
+{
+    let _tasks = sheet.tasks();
+    worst_backlog(sheet, TaskSet::below(task), task) as usize
+}
+
+// Makes the main curve the spare one, lowered by the slack below a place.
+fn lower_spare<C: Curve, K: Kernel>(bench: &mut Bench<C, K>, slack: u64, top: usize)
+    requires caps { HaveOneCap (C.cells bench.old.main) (C.cells bench.old.spare) (C.cells bench.old.kept) }
+    requires top { top < length (C.cells bench.old.spare) }
+    ensures main { C.cells bench.new.main ≡ lower_of slack top (C.cells bench.old.spare) }
+    ensures spare { C.cells bench.new.spare ≡ C.cells bench.old.spare }
+    ensures caps { HaveOneCap (C.cells bench.new.main) (C.cells bench.new.spare) (C.cells bench.new.kept) }
+{
+    bench.bring_back();
+    bench.main.lower(slack, top);
+}
+
+// Whether the main curve certifies the level.
+fn is_certified<C: Curve, K: Kernel>(bench: &mut Bench<C, K>, sheet: &Sheet, task: usize) -> bool
+    requires task { task < length sheet.now.tasks }
+    requires caps { HaveOneCap (C.cells bench.old.main) (C.cells bench.old.spare) (C.cells bench.old.kept) }
+    ensures test { result ≡ certifies sheet.now.tasks (sheet_level task) (C.cells bench.old.main) }
+    ensures main { C.cells bench.new.main ≡ C.cells bench.old.main }
+    ensures spare { C.cells bench.new.spare ≡ C.cells bench.old.spare }
+    ensures caps { HaveOneCap (C.cells bench.new.main) (C.cells bench.new.spare) (C.cells bench.new.kept) }
+{
+    // past the last cell
+    let end = bench.main.cap();
+    bench.main.at(end) == UNIT && check(bench, sheet, task).is_none()
+}
