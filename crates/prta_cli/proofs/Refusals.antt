@@ -1,5 +1,5 @@
--- The statuses that come before the first byte of out.
-use Rattle.std.proofs.Common.{◌≡◌, ◌≢◌, ℕ, ◌<◌, Bool, true, false, cond, nat_lt, Option, Some, None, IfSome, IsSomeAnd, List, [], ◌∷◌, ◌++◌, length, refl, ap, subst, inl, inr, arith}
+-- The answers and endings of commands.
+use Rattle.std.proofs.Common.{◌≡◌, ◌≢◌, ℕ, ◌<◌, Bool, true, false, cond, nat_lt, Option, Some, None, is_some, IfSome, IsSomeAnd, List, [], ◌∷◌, ◌++◌, length, refl, sym, ap, subst, inl, inr, arith}
 use Rattle.std.specs.Option.{option_map_or}
 use Rattle.std.proofs.lemmas.Bool.Decides.{nat_tests}
 use Rattle.prta_outside.specs.Shelf.{count_of, count_of_failed}
@@ -7,22 +7,20 @@ use Rattle.prta_sheet.specs.declared.limits.TheConstants.{SHEET_LIMIT}
 use Rattle.prta_sheet.specs.declared.fault.SheetFault.TheVariants.{TooLong}
 use Rattle.prta_sheet.specs.Sheet.{Sheet}
 use Rattle.prta_sheet.specs.Stated.{sheet_stated}
-use Rattle.prta_report.specs.Text.{analyse_text}
+use Rattle.prta_report.specs.Trace.{simulate_text}
+use Rattle.prta_report.specs.Analysis.{check_text, failing_job}
 use Rattle.prta_cli.specs.declared.status.Status.TheVariants as status
 use Rattle.prta_cli.specs.declared.ending.Ending.{Ending}
-use Rattle.prta_cli.specs.declared.ending.Ending.TheVariants.{Done, Usage, SheetRefused, InputRefused, ReadFault, WriteFault, NoMemory, NotYet}
+use Rattle.prta_cli.specs.declared.ending.Ending.TheVariants.{Done, No, Usage, SheetRefused, InputRefused, ReadFault, WriteFault, NoMemory}
 use Rattle.prta_cli.specs.declared.times.TheConstants.{TIMES_LIMIT}
 use Rattle.prta_cli.specs.declared.times.TimesFault.{TimesFault}
 use Rattle.prta_cli.specs.declared.times.TimesFault.TheVariants as times
-use Rattle.prta_cli.specs.Words.{Command, command, analyse, simulate, sheet_name, second_name}
-use Rattle.prta_cli.specs.Answer.{Answer, Files, answer, answer_to, answer_to_file, answer_to_sheet, analysis, simulation, told, plain, refused, input_refused, IsSheetOf, IsAcceptedFile}
-use Rattle.prta_cli.specs.Quotients.{numbers_of}
-use Rattle.prta_cli.specs.Simple.{is_simple}
+use Rattle.prta_cli.specs.Words.{Command, command, analyse, ledger, check, simulate, sheet_name, second_name}
+use Rattle.prta_cli.specs.Answer.{Answer, Files, answer, answer_to, answer_to_file, answer_to_sheet, checking, simulation, told, told_no, plain, refused, input_refused, IsSheetOf, IsAcceptedFile}
 use Rattle.prta_cli.specs.Times.{times_in, times_fault}
-use Rattle.prta_report.specs.Trace.{simulate_text}
-use Rattle.prta_cli.specs.Ending.{status_of, Tells}
-use Rattle.prta_cli.specs.Writing.{TookPart}
-use Rattle.prta_cli.specs.Causes.{HasFailed, SheetFailed, ReadFailed, IsReadFault, IsOrNoMemory, IsBeforeOut}
+use Rattle.prta_cli.specs.Ending.{status_of, IsServed, EndsBy}
+use Rattle.prta_cli.specs.Writing.{Took, TookPart}
+use Rattle.prta_cli.specs.Causes.{HasFailed, SheetFailed, ReadFailed, IsReadFault, IsOrNoMemory, IsAfterWords}
 
 -- a file past the limit is refused by that
 pub too_long : (answers : Sheet → Answer) (held : Option (List ℕ)) → IsSomeAnd held (λ bytes. SHEET_LIMIT < length bytes) → answer_to_file answers held ≡ refused TooLong
@@ -42,11 +40,37 @@ pub accepted : (held : Option (List ℕ)) (sheet : Sheet) → IsSheetOf held she
 accepted None sheet h = absurd h
 accepted (Some bytes) sheet h = h.0
 
--- the answer to an accepted sheet doesn't refuse it
-analysis_accepts : (sheet : Sheet) → (analysis sheet).status ≢ status.SheetRefused
-analysis_accepts sheet = by_flag (is_simple sheet)
+-- what answers and endings say together
+module _ (first last : Option (List ℕ)) where
+  pub ends_done : (text : List ℕ) → Took first last text → EndsBy Done (told text) first last
+  ends_done text took = record { status_is = λ _. refl; text = λ _. took; served = λ e. cc; part = λ e. cc; tells = tt }
+
+  pub ends_no : (text : List ℕ) → Took first last text → EndsBy No (told_no text) first last
+  ends_no text took = record { status_is = λ _. refl; text = λ _. took; served = λ e. cc; part = λ e. cc; tells = tt }
+
+  pub ends_cut : (a : Answer) → IsServed a.status → TookPart first last a.out → EndsBy WriteFault a first last
+  ends_cut a served part = record { status_is = λ e. absurd e; text = λ e. absurd e; served = λ _. served; part = λ _. part; tells = tt }
+
+  -- to a command whose sheet is accepted
+  pub ends_by_sheet : (held : Option Files) (c : Command) (sheet : Sheet) (ending : Ending) → IfSome held (λ files. IsSheetOf (files (sheet_name c)) sheet) →
+      ((files : Files) → EndsBy ending (answer_to_sheet files c sheet) first last) → IfSome held (λ files. EndsBy ending (answer_to files c) first last)
+  ends_by_sheet None c sheet ending is ends = tt
+  ends_by_sheet (Some files) c sheet ending is ends =
+      subst (λ a. EndsBy ending a first last) (sym (of_sheet (answer_to_sheet files c) (files (sheet_name c)) sheet is)) (ends files)
+
+-- the verdict has a text either way
+pub checking_serves : (sheet : Sheet) → IsServed (checking sheet).status × ((checking sheet).out ≡ check_text sheet)
+checking_serves sheet = by_flag (is_some (failing_job sheet))
   where
-    by_flag : (simple : Bool) → (cond simple (told (analyse_text sheet (numbers_of sheet))) (plain status.NotYet)).status ≢ status.SheetRefused
+    by_flag : (failing : Bool) → IsServed (cond failing (told_no (check_text sheet)) (told (check_text sheet))).status × ((cond failing (told_no (check_text sheet)) (told (check_text sheet))).out ≡ check_text sheet)
+    by_flag true = (tt, refl)
+    by_flag false = (tt, refl)
+
+-- the answer to an accepted sheet doesn't refuse it
+checking_accepts : (sheet : Sheet) → (checking sheet).status ≢ status.SheetRefused
+checking_accepts sheet = by_flag (is_some (failing_job sheet))
+  where
+    by_flag : (failing : Bool) → (cond failing (told_no (check_text sheet)) (told (check_text sheet))).status ≢ status.SheetRefused
     by_flag true = λ e. cc
     by_flag false = λ e. cc
 
@@ -59,7 +83,9 @@ simulation_accepts sheet (Some bytes) = by_fault (times_fault sheet bytes)
     by_fault (Some fault) = λ e. cc
 
 answer_accepts : (files : Files) (c : Command) (sheet : Sheet) → (answer_to_sheet files c sheet).status ≢ status.SheetRefused
-answer_accepts files (analyse name) sheet = analysis_accepts sheet
+answer_accepts files (analyse name) sheet = λ e. cc
+answer_accepts files (ledger name) sheet = λ e. cc
+answer_accepts files (check name) sheet = checking_accepts sheet
 answer_accepts files (simulate name times) sheet = simulation_accepts sheet (files times)
 
 file_accepts : (answers : Sheet → Answer) → ((sheet : Sheet) → (answers sheet).status ≢ status.SheetRefused) → (held : Option (List ℕ)) → IsAcceptedFile held →
@@ -67,7 +93,7 @@ file_accepts : (answers : Sheet → Answer) → ((sheet : Sheet) → (answers sh
 file_accepts answers accepts None is = absurd is
 file_accepts answers accepts (Some bytes) is = rw is (by_sheet (sheet_stated bytes))
   where
-    by_sheet : (sheet : Option Sheet) → (option_map_or answers sheet (plain status.NotYet)).status ≢ status.SheetRefused
+    by_sheet : (sheet : Option Sheet) → (option_map_or answers sheet (plain status.ReadFault)).status ≢ status.SheetRefused
     by_sheet None = λ e. cc
     by_sheet (Some sheet) = accepts sheet
 
@@ -103,42 +129,65 @@ module _ (words : List (List ℕ)) (c : Command) (given : command words ≡ Some
       none_named None h = absurd h
       none_named (Some name) h = none name h
 
-  -- what out took of the bytes is a part of the answer's text
-  pub part_of_text : (held : Option Files) (first last : Option (List ℕ)) (bytes written : List ℕ) → bytes ≡ written →
-      IfSome held (λ files. answer_to files c ≡ told written) → TookPart first last bytes → IfSome held (λ files. TookPart first last (answer files words).out)
-  part_of_text None first last bytes written same text took = tt
-  part_of_text (Some files) first last bytes written same text took = rw (given, text) (subst (λ t. TookPart first last t) same took)
+  module _ (first last : Option (List ℕ)) where
+    -- an ending, against the answer to the words
+    pub ends : (held : Option Files) (ending : Ending) → IfSome held (λ files. EndsBy ending (answer_to files c) first last) → IfSome held (λ files. EndsBy ending (answer files words) first last)
+    ends None ending h = tt
+    ends (Some files) ending h = rw given h
 
-  -- where no read failed, an ending without a text has the status of the answer, or it is want of memory
-  as_answered : (files : Files) (ending : Ending) → IsBeforeOut (status_of ending) → status_of ending ≢ status.ReadFault → Tells ending (answer_to files c) → IsOrNoMemory (status_of ending) (answer files words).status
-  as_answered files Done r f t = absurd r
-  as_answered files Usage r f t = absurd r
-  as_answered files (SheetRefused page) r f t = rw (given, t) (inl refl)
-  as_answered files (InputRefused page) r f t = rw (given, t) (inl refl)
-  as_answered files ReadFault r f t = absurd (f refl)
-  as_answered files WriteFault r f t = absurd r
-  as_answered files NoMemory r f t = inr refl
-  as_answered files NotYet r f t = rw (given, t) (inl refl)
+    -- where no read failed, an ending without a text has the status of the answer, or it is want of memory
+    unserved : (a : Answer) (ending : Ending) → IsAfterWords (status_of ending) → status_of ending ≢ status.ReadFault → EndsBy ending a first last →
+        (IsServed a.status → ⊥) → IsOrNoMemory (status_of ending) a.status
+    unserved a Done r f e free = let is : a.status ≡ status.Done = e.status_is tt in absurd (free (rw is tt))
+    unserved a No r f e free = let is : a.status ≡ status.No = e.status_is tt in absurd (free (rw is tt))
+    unserved a Usage r f e free = absurd r
+    unserved a (SheetRefused page) r f e free = rw e.tells (inl refl)
+    unserved a (InputRefused page) r f e free = rw e.tells (inl refl)
+    unserved a ReadFault r f e free = absurd (f refl)
+    unserved a WriteFault r f e free = absurd (free (e.served refl))
+    unserved a NoMemory r f e free = inr refl
 
-  -- a sheet that the answer refuses is refused, where its own read didn't fail
-  refused_as_answered : (files : Files) (ending : Ending) → IsBeforeOut (status_of ending) → (status_of ending ≡ status.ReadFault → IsAcceptedFile (files (sheet_name c))) →
-      Tells ending (answer_to files c) → (answer files words).status ≡ status.SheetRefused → IsOrNoMemory (status_of ending) status.SheetRefused
-  refused_as_answered files ReadFault r accepted t is = absurd (file_accepts (answer_to_sheet files c) (answer_accepts files c) (files (sheet_name c)) (accepted refl) (rw given at is))
-  refused_as_answered files Done r accepted t is = absurd r
-  refused_as_answered files Usage r accepted t is = absurd r
-  refused_as_answered files (SheetRefused page) r accepted t is = inl refl
-  refused_as_answered files (InputRefused page) r accepted t is = let other = rw (given, t) at is in cc
-  refused_as_answered files WriteFault r accepted t is = absurd r
-  refused_as_answered files NoMemory r accepted t is = inr refl
-  refused_as_answered files NotYet r accepted t is = let other = rw (given, t) at is in cc
+    -- and where out didn't fail either, each ending has
+    answered : (a : Answer) (ending : Ending) → IsAfterWords (status_of ending) → status_of ending ≢ status.ReadFault → status_of ending ≢ status.WriteFault → EndsBy ending a first last →
+        IsOrNoMemory (status_of ending) a.status
+    answered a Done r f w e = inl (sym (e.status_is tt))
+    answered a No r f w e = inl (sym (e.status_is tt))
+    answered a Usage r f w e = absurd r
+    answered a (SheetRefused page) r f w e = rw e.tells (inl refl)
+    answered a (InputRefused page) r f w e = rw e.tells (inl refl)
+    answered a ReadFault r f w e = absurd (f refl)
+    answered a WriteFault r f w e = absurd (w refl)
+    answered a NoMemory r f w e = inr refl
 
-  pub refused_as_told : (held : Option Files) (ending : Ending) → IsBeforeOut (status_of ending) → (status_of ending ≡ status.ReadFault → IsReadFault held c before now) → ¬ SheetFailed words before now →
-      IfSome held (λ files. Tells ending (answer_to files c)) → IfSome held (λ files. (answer files words).status ≡ status.SheetRefused → IsOrNoMemory (status_of ending) status.SheetRefused)
-  refused_as_told None ending r f unread t = tt
-  refused_as_told (Some files) ending r f unread t = refused_as_answered files ending r (λ e. accepted_before files (f e) unread) t
+    -- a sheet that the answer refuses is refused, where its own read didn't fail
+    refused_so : (a : Answer) (ending : Ending) → IsAfterWords (status_of ending) → (status_of ending ≡ status.ReadFault → a.status ≢ status.SheetRefused) → EndsBy ending a first last →
+        a.status ≡ status.SheetRefused → IsOrNoMemory (status_of ending) status.SheetRefused
+    refused_so a Done r f e is = let other = e.status_is tt in cc
+    refused_so a No r f e is = let other = e.status_is tt in cc
+    refused_so a Usage r f e is = absurd r
+    refused_so a (SheetRefused page) r f e is = inl refl
+    refused_so a (InputRefused page) r f e is = let other = e.tells in cc
+    refused_so a ReadFault r f e is = absurd (f refl is)
+    refused_so a WriteFault r f e is = absurd (rw is at (e.served refl))
+    refused_so a NoMemory r f e is = inr refl
 
-  -- the same of what a shelf tells
-  pub as_told : (held : Option Files) (ending : Ending) → IsBeforeOut (status_of ending) → (status_of ending ≡ status.ReadFault → IsReadFault held c before now) → ¬ ReadFailed words before now →
-      IfSome held (λ files. Tells ending (answer_to files c)) → IfSome held (λ files. IsOrNoMemory (status_of ending) (answer files words).status)
-  as_told None ending r f unread t = tt
-  as_told (Some files) ending r f unread t = as_answered files ending r (λ is. unread (read_failed (Some files) (f is))) t
+    pub refused_as_told : (held : Option Files) (ending : Ending) → IsAfterWords (status_of ending) → (status_of ending ≡ status.ReadFault → IsReadFault held c before now) → ¬ SheetFailed words before now →
+        IfSome held (λ files. EndsBy ending (answer_to files c) first last) →
+        IfSome held (λ files. (answer files words).status ≡ status.SheetRefused → IsOrNoMemory (status_of ending) status.SheetRefused)
+    refused_as_told None ending r f unread e = tt
+    refused_as_told (Some files) ending r f unread e =
+        rw given
+        (refused_so (answer_to files c) ending r
+        (λ is. file_accepts (answer_to_sheet files c) (answer_accepts files c) (files (sheet_name c)) (accepted_before files (f is) unread)) e)
+
+    pub unserved_as_told : (held : Option Files) (ending : Ending) → IsAfterWords (status_of ending) → (status_of ending ≡ status.ReadFault → IsReadFault held c before now) → ¬ ReadFailed words before now →
+        IfSome held (λ files. EndsBy ending (answer_to files c) first last) →
+        IfSome held (λ files. (IsServed (answer files words).status → ⊥) → IsOrNoMemory (status_of ending) (answer files words).status)
+    unserved_as_told None ending r f unread e = tt
+    unserved_as_told (Some files) ending r f unread e = rw given (unserved (answer_to files c) ending r (λ is. unread (read_failed (Some files) (f is))) e)
+
+    pub as_told : (held : Option Files) (ending : Ending) → IsAfterWords (status_of ending) → (status_of ending ≡ status.ReadFault → IsReadFault held c before now) → ¬ ReadFailed words before now →
+        status_of ending ≢ status.WriteFault → IfSome held (λ files. EndsBy ending (answer_to files c) first last) →
+        IfSome held (λ files. IsOrNoMemory (status_of ending) (answer files words).status)
+    as_told None ending r f unread w e = tt
+    as_told (Some files) ending r f unread w e = rw given (answered (answer_to files c) ending r (λ is. unread (read_failed (Some files) (f is))) w e)

@@ -1,17 +1,15 @@
 -- What the program answers to words, where a shelf tells its files.
-use Rattle.std.specs.Prelude.{◌≡◌, ℕ, Option, Some, None, IsSomeAnd, option_and_then, List, [], codes, if◌then◌else◌}
+use Rattle.std.specs.Prelude.{◌≡◌, ℕ, Option, Some, None, is_some, IsSomeAnd, option_and_then, List, [], codes, if◌then◌else◌}
 use Rattle.std.specs.Option.{option_map_or}
 use Rattle.prta_sheet.specs.Sheet.{Sheet}
 use Rattle.prta_sheet.specs.declared.fault.SheetFault.{SheetFault}
 use Rattle.prta_sheet.specs.Stated.{sheet_stated}
 use Rattle.prta_sheet.specs.Refusal.{refusal}
-use Rattle.prta_report.specs.Text.{analyse_text}
+use Rattle.prta_report.specs.Analysis.{analyse_text, ledger_text, check_text, failing_job}
 use Rattle.prta_cli.specs.declared.status.Status.{Status}
-use Rattle.prta_cli.specs.declared.status.Status.TheVariants.{Done, Usage, SheetRefused, InputRefused, ReadFault, WriteFault, NoMemory, NotYet}
+use Rattle.prta_cli.specs.declared.status.Status.TheVariants.{Done, No, Usage, SheetRefused, InputRefused, ReadFault, WriteFault, NoMemory}
 use Rattle.prta_cli.specs.declared.times.TimesFault.{TimesFault}
-use Rattle.prta_cli.specs.Words.{Command, analyse, simulate, command, sheet_name}
-use Rattle.prta_cli.specs.Quotients.{numbers_of}
-use Rattle.prta_cli.specs.Simple.{is_simple}
+use Rattle.prta_cli.specs.Words.{Command, analyse, ledger, check, simulate, command, sheet_name}
 use Rattle.prta_cli.specs.Times.{times_in, times_fault}
 use Rattle.prta_report.specs.Trace.{simulate_text}
 use Rattle.prta_cli.specs.Refused.{refused_line, input_line}
@@ -22,20 +20,23 @@ pub record Answer : Type 0 where
   pub out : List ℕ
   pub err : List ℕ
 
--- the line on err by the status alone; Done has none, and that of a refused file tells more
+-- the line on err by the status alone; Done and No have none, and that of a refused file tells more
 abbrev pub err_line : Status → List ℕ
 err_line Done = []
+err_line No = []
 err_line Usage = codes "prta: usage\n"
 err_line SheetRefused = []
 err_line InputRefused = []
 err_line ReadFault = codes "prta: read fault\n"
 err_line WriteFault = codes "prta: write fault\n"
 err_line NoMemory = codes "prta: no memory\n"
-err_line NotYet = codes "prta: not yet\n"
 
--- the answer with a text, and those without one
+-- the answers with a text, and those without one
 abbrev pub told : List ℕ → Answer
 told text = record { status = Done; out = text; err = [] }
+
+abbrev pub told_no : List ℕ → Answer
+told_no text = record { status = No; out = text; err = [] }
 
 abbrev pub plain : Status → Answer
 plain status = record { status = status; out = []; err = err_line status }
@@ -46,9 +47,9 @@ refused fault = record { status = SheetRefused; out = []; err = refused_line fau
 abbrev pub input_refused : TimesFault → Answer
 input_refused fault = record { status = InputRefused; out = []; err = input_line fault }
 
--- to `analyse`, by the accepted sheet
-abbrev pub analysis : Sheet → Answer
-analysis sheet = if is_simple sheet then told (analyse_text sheet (numbers_of sheet)) else plain NotYet
+-- to `check`, by the accepted sheet: no, where there is a job whose upper number doesn't pass
+abbrev pub checking : Sheet → Answer
+checking sheet = if is_some (failing_job sheet) then told_no (check_text sheet) else told (check_text sheet)
 
 -- to `simulate`, by the accepted sheet and by what is held under the name of the times
 abbrev pub simulation : Sheet → Option (List ℕ) → Answer
@@ -60,14 +61,16 @@ abbrev pub Files : Type 0
 Files = List ℕ → Option (List ℕ)
 
 abbrev pub answer_to_sheet : Files → Command → Sheet → Answer
-answer_to_sheet files (analyse name) sheet = analysis sheet
+answer_to_sheet files (analyse name) sheet = told (analyse_text sheet)
+answer_to_sheet files (ledger name) sheet = told (ledger_text sheet)
+answer_to_sheet files (check name) sheet = checking sheet
 answer_to_sheet files (simulate name times) sheet = simulation sheet (files times)
 
--- by the first condition that fails on a sheet, and by what is held under its name; bytes that no condition refuses state a sheet, so the
--- last case of `answer_by` without one doesn't come
+-- by the first condition that fails on a sheet, and by the sheet that is stated; bytes that no condition refuses state one, so that the
+-- answer where there is none doesn't come
 abbrev pub answer_by : (Sheet → Answer) → Option SheetFault → Option Sheet → Answer
 answer_by answers (Some fault) sheet = refused fault
-answer_by answers None sheet = option_map_or answers sheet (plain NotYet)
+answer_by answers None sheet = option_map_or answers sheet (plain ReadFault)
 
 abbrev pub answer_to_file : (Sheet → Answer) → Option (List ℕ) → Answer
 answer_to_file answers None = plain ReadFault
@@ -94,10 +97,10 @@ sheet_under files name = option_and_then sheet_stated (files name)
 
 abbrev pub status_number : Status → ℕ
 status_number Done = 0
+status_number No = 1
 status_number Usage = 2
 status_number SheetRefused = 3
 status_number InputRefused = 4
 status_number ReadFault = 5
 status_number WriteFault = 6
 status_number NoMemory = 7
-status_number NotYet = 8

@@ -3,11 +3,11 @@ use Rattle.std.specs.Prelude.{◌≡◌, ℕ, ◌<◌, ◌⊎◌, Option, IfSome
 use Rattle.prta_outside.specs.Shelf.{count_of}
 use Rattle.prta_sheet.specs.declared.fault.SheetFault.{SheetFault}
 use Rattle.prta_cli.specs.declared.status.Status.{Status}
-use Rattle.prta_cli.specs.declared.status.Status.TheVariants.{Done, Usage, SheetRefused, InputRefused, ReadFault, WriteFault, NoMemory, NotYet}
+use Rattle.prta_cli.specs.declared.status.Status.TheVariants.{Done, No, Usage, SheetRefused, InputRefused, ReadFault, WriteFault, NoMemory}
 use Rattle.prta_cli.specs.declared.times.TimesFault.{TimesFault}
-use Rattle.prta_cli.specs.Words.{Command, analyse, simulate, command, sheet_name, second_name}
+use Rattle.prta_cli.specs.Words.{Command, analyse, ledger, check, simulate, command, sheet_name, second_name}
 use Rattle.prta_cli.specs.Answer.{Files, answer, err_line, sheet_under, IsAcceptedFile}
-use Rattle.prta_cli.specs.Quotients.{AreAround}
+use Rattle.prta_cli.specs.Meaning.{AreAround, AreClose, ChancesPass}
 use Rattle.prta_cli.specs.Refused.{refused_line, input_line}
 
 -- between two lists of the names of a shelf's failed reads the count of a name rose
@@ -32,10 +32,13 @@ IsReadFault held c before now =
     (now ≡ before ++ sheet_name c ∷ [])
     ⊎ (IsSomeAnd (second_name c) (λ name. now ≡ before ++ name ∷ []) × IfSome held (λ files. IsAcceptedFile (files (sheet_name c))))
 
--- where the words ask for an analysis: a sheet is stated under the name, and its numbers are around the exact chances
-abbrev pub IsAnalysed : Files → Command → Type 0
-IsAnalysed files (analyse name) = IsSomeAnd (sheet_under files name) AreAround
-IsAnalysed files (simulate name times) = ⊤
+-- what a run that ended with Done shows of the sheet that is stated under the name: of `analyse` and `ledger` that each job's numbers are
+-- around its exact chance, and no further apart than its entries add up to; of `check` that each exact chance passes
+abbrev pub IsShown : Files → Command → Type 0
+IsShown files (analyse name) = IsSomeAnd (sheet_under files name) (λ sheet. AreAround sheet × AreClose sheet)
+IsShown files (ledger name) = IsSomeAnd (sheet_under files name) (λ sheet. AreAround sheet × AreClose sheet)
+IsShown files (check name) = IsSomeAnd (sheet_under files name) ChancesPass
+IsShown files (simulate name times) = ⊤
 
 -- where a shelf tells its files, the answer to the words has the status
 abbrev pub AnswerIs : Option Files → List (List ℕ) → Status → Type 0
@@ -48,13 +51,18 @@ IsOrNoMemory status wanted = (status ≡ wanted) ⊎ (status ≡ NoMemory)
 -- a status that comes before the first byte of out, where the words are a command
 abbrev pub IsBeforeOut : Status → Type 0
 IsBeforeOut Done = ⊥
+IsBeforeOut No = ⊥
 IsBeforeOut Usage = ⊥
 IsBeforeOut SheetRefused = ⊤
 IsBeforeOut InputRefused = ⊤
 IsBeforeOut ReadFault = ⊤
 IsBeforeOut WriteFault = ⊥
 IsBeforeOut NoMemory = ⊤
-IsBeforeOut NotYet = ⊤
+
+-- a status where the words are a command
+abbrev pub IsAfterWords : Status → Type 0
+IsAfterWords Usage = ⊥
+IsAfterWords _ = ⊤
 
 -- the line of a status: for a refused file that of some condition
 abbrev pub IsLine : Status → List ℕ → Type 0

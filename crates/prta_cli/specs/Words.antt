@@ -2,7 +2,7 @@
 use Rattle.std.specs.Prelude.{ℕ, Option, Some, None, List, [], ◌∷◌, map, codes, bytes_eq, if◌then◌else◌, String, string_bytes}
 use Rattle.std.specs.declared.alloc.Global.{Global}
 use Rattle.prta_cli.specs.declared.words.Command.{Command as NamedCommand}
-use Rattle.prta_cli.specs.declared.words.Command.TheVariants.{Analyse, Simulate}
+use Rattle.prta_cli.specs.declared.words.Command.TheVariants.{Analyse, Ledger, Check, Simulate}
 
 -- the words as bytes
 abbrev pub texts : List (String Global) → List (List ℕ)
@@ -11,24 +11,40 @@ texts words = map (λ word. string_bytes word) words
 -- a command, with the names of the files that it reads
 pub data Command : Type 0 where
   analyse : List ℕ → Command
+  ledger : List ℕ → Command
+  check : List ℕ → Command
   simulate : List ℕ → List ℕ → Command
+
+-- the command that reads a sheet alone, by its word; none by any other
+abbrev pub sheet_command : List ℕ → List ℕ → Option Command
+sheet_command word sheet =
+    if bytes_eq word (codes "analyse") then Some (analyse sheet)
+    else if bytes_eq word (codes "ledger") then Some (ledger sheet)
+    else if bytes_eq word (codes "check") then Some (check sheet)
+    else None
 
 -- the command that words are: its own word first, and then as many names as it asks for; none in any other words
 abbrev pub command : List (List ℕ) → Option Command
-command (word ∷ sheet ∷ []) = if bytes_eq word (codes "analyse") then Some (analyse sheet) else None
+command (word ∷ sheet ∷ []) = sheet_command word sheet
 command (word ∷ sheet ∷ times ∷ []) = if bytes_eq word (codes "simulate") then Some (simulate sheet times) else None
 command _ = None
 
 -- a command of the program, as contracts see it
 abbrev pub command_of : NamedCommand → Command
 command_of (Analyse sheet) = analyse sheet.now
+command_of (Ledger sheet) = ledger sheet.now
+command_of (Check sheet) = check sheet.now
 command_of (Simulate sheet times) = simulate sheet.now times.now
 
 -- the name of the sheet, and that of the second file, where there is one
 abbrev pub sheet_name : Command → List ℕ
 sheet_name (analyse sheet) = sheet
+sheet_name (ledger sheet) = sheet
+sheet_name (check sheet) = sheet
 sheet_name (simulate sheet times) = sheet
 
 abbrev pub second_name : Command → Option (List ℕ)
 second_name (analyse sheet) = None
+second_name (ledger sheet) = None
+second_name (check sheet) = None
 second_name (simulate sheet times) = Some times

@@ -7,16 +7,16 @@ use crate::status::Status;
 use prta_report::Page;
 
 /// A status, and for a refused file the line that tells why.
-#[derive(Debug, Drop)]
+#[derive(Drop)]
 pub enum Ending {
     Done,
+    No,
     Usage,
     SheetRefused(Page),
     InputRefused(Page),
     ReadFault,
     WriteFault,
     NoMemory,
-    NotYet,
 }
 
 impl Ending {
@@ -26,13 +26,13 @@ impl Ending {
     {
         match self {
             Ending::Done => Status::Done,
+            Ending::No => Status::No,
             Ending::Usage => Status::Usage,
             Ending::SheetRefused(_) => Status::SheetRefused,
             Ending::InputRefused(_) => Status::InputRefused,
             Ending::ReadFault => Status::ReadFault,
             Ending::WriteFault => Status::WriteFault,
             Ending::NoMemory => Status::NoMemory,
-            Ending::NotYet => Status::NotYet,
         }
     }
 
@@ -41,13 +41,12 @@ impl Ending {
         ensures { result.now ≡ line_of self.now }
     {
         match self {
-            Ending::Done => b"",
+            Ending::Done | Ending::No => b"",
             Ending::Usage => b"prta: usage\n",
             Ending::SheetRefused(page) | Ending::InputRefused(page) => page.bytes(),
             Ending::ReadFault => b"prta: read fault\n",
             Ending::WriteFault => b"prta: write fault\n",
             Ending::NoMemory => b"prta: no memory\n",
-            Ending::NotYet => b"prta: not yet\n",
         }
     }
 }

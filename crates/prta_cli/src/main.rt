@@ -1,20 +1,22 @@
 //! `prta`: proved bounds on the chance that a job misses its deadline.
 #![tactic(auto)]
 
-mod analysis;
+mod checking;
+mod commands;
 mod ending;
 mod leave;
+mod meaning;
 mod output;
-mod quotients;
 mod refused;
+mod report;
+mod room;
+mod rows;
 mod run;
 mod sheet;
-mod simple;
 mod simulation;
 mod status;
 #[cfg(test)]
 mod tests;
-mod text;
 mod times;
 mod trace;
 mod words;
@@ -22,6 +24,7 @@ mod words;
 ghost use Rattle.std.specs.Prelude.{◌≡◌, ◌≢◌, ◌⊎◌, IfErr};
 ghost use Rattle.std.specs.Process.{exit_status};
 ghost use Rattle.prta_outside.specs.Sink.{HasRisen};
+ghost use Rattle.prta_cli.specs.Ending.{IsServed};
 
 use leave::{exit_code, without_words};
 use prta_outside::{FolderShelf, StdSink};
@@ -53,7 +56,7 @@ fn serve<R: Files>(
     err: &mut StdSink<Stderr>,
 ) -> Status
     ensures write_fault { result ≡ Status.WriteFault → HasRisen out.old.faults out.new.faults }
-    ensures nothing { result ≢ Status.Done → result ≢ Status.WriteFault → out.new ≡ out.old }
+    ensures nothing { ¬ IsServed result → result ≢ Status.WriteFault → out.new ≡ out.old }
     ensures no_read_fault { result ≢ Status.ReadFault → shelf.new.failed ≡ shelf.old.failed }
 {
     run(alloc, words, shelf, out, err)

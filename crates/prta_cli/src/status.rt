@@ -8,6 +8,8 @@ ghost use Rattle.prta_cli.specs.Answer.{status_number};
 pub enum Status {
     /// Out took the whole text.
     Done,
+    /// The same, and `check` found a job whose upper number doesn't pass.
+    No,
     /// The words are no command.
     Usage,
     /// A condition on the sheet fails: the first one is told on err.
@@ -20,8 +22,6 @@ pub enum Status {
     WriteFault,
     /// Want of memory.
     NoMemory,
-    /// The sheet isn't simple: its analysis isn't built yet.
-    NotYet,
 }
 
 impl Status {
@@ -31,13 +31,13 @@ impl Status {
     {
         match self {
             Status::Done => 0,
+            Status::No => 1,
             Status::Usage => 2,
             Status::SheetRefused => 3,
             Status::InputRefused => 4,
             Status::ReadFault => 5,
             Status::WriteFault => 6,
             Status::NoMemory => 7,
-            Status::NotYet => 8,
         }
     }
 }

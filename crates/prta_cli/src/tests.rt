@@ -1,15 +1,21 @@
-//! Runs over memory. The expected texts are worked by hand from the definitions.
+//! Runs over memory. The expected texts are worked from the definitions, by hand or by an independent program.
 
+mod reports;
+mod rooms;
 mod sheets;
 mod traces;
 
 use crate::run::run;
 use crate::status::Status;
 use prta_outside::{MemoryShelf, MemorySink};
-use sheets::{AS_IT_IS, QUARTER_TEXT, SHEETS, Text, bytes_of};
+use reports::{
+    MANY, MANY_END, MANY_LEDGER_END, MANY_LEDGER_START, MANY_START, QUARTER_LEDGER,
+    QUARTER_VERDICT, REPORTS, SYSTEM, SYSTEM_LEDGER_END, SYSTEM_LEDGER_START, SYSTEM_TEXT, YES,
+};
+use sheets::{AS_IT_IS, PAIR, QUARTER_TEXT, SHEETS, Text, bytes_of};
 use std::alloc::Global;
 use std::test::Fail;
-use traces::{LONG, LONG_END, LONG_START, PAIR, PAIR_TIMES, PAIR_TRACE, TIMES};
+use traces::{LONG, LONG_END, LONG_START, PAIR_TIMES, PAIR_TRACE, TIMES};
 
 // A run of the program, and what it is to end with.
 #[derive(Clone, Copy)]
@@ -26,13 +32,19 @@ struct Case {
     failing_put: u64,
     err_room: usize,
     status: Status,
-    out: &'static [u8],
-    err: &'static [u8],
+    out: &'static str,
+    err: &'static str,
 }
 
 const NAME: &str = "s.toml";
 
 const SECOND: &str = "times";
+
+const LEDGER_WORDS: &[&str] = &["ledger", NAME];
+
+const CHECK_WORDS: &[&str] = &["check", NAME];
+
+const TRACE_WORDS: &[&str] = &["simulate", NAME, SECOND];
 
 // Nothing fails.
 const SERVED: Case = Case {
@@ -47,11 +59,31 @@ const SERVED: Case = Case {
     err_room: 4_096,
     status: Status::Done,
     out: QUARTER_TEXT,
-    err: b"",
+    err: "",
+};
+
+const LEDGER: Case = Case {
+    words: LEDGER_WORDS,
+    out: QUARTER_LEDGER,
+    ..SERVED
+};
+
+const CHECKED: Case = Case {
+    words: CHECK_WORDS,
+    status: Status::No,
+    out: QUARTER_VERDICT,
+    ..SERVED
+};
+
+const PASSED: Case = Case {
+    sheet: Text::Changed("period", "allow = [1, 4]\nperiod"),
+    status: Status::Done,
+    out: YES,
+    ..CHECKED
 };
 
 const TRACED: Case = Case {
-    words: &["simulate", NAME, SECOND],
+    words: TRACE_WORDS,
     sheet: Text::Given(PAIR),
     out: PAIR_TRACE,
     ..SERVED
@@ -59,33 +91,45 @@ const TRACED: Case = Case {
 
 const USAGE: Case = Case {
     status: Status::Usage,
-    out: b"",
-    err: b"prta: usage\n",
+    out: "",
+    err: "prta: usage\n",
     ..SERVED
 };
 
 const UNREAD: Case = Case {
     failing_read: 1,
     status: Status::ReadFault,
-    out: b"",
-    err: b"prta: read fault\n",
+    out: "",
+    err: "prta: read fault\n",
     ..SERVED
 };
 
 const UNTRACED: Case = Case {
-    words: &["simulate", NAME, SECOND],
+    words: TRACE_WORDS,
     sheet: Text::Given(PAIR),
     ..UNREAD
 };
 
+const WRITE_FAULT: &str = "prta: write fault\n";
+
+// Ten bytes a call, with a second call that fails.
+const UNWRITTEN: Case = Case {
+    most: 10,
+    failing_put: 2,
+    status: Status::WriteFault,
+    out: "prta analy",
+    err: WRITE_FAULT,
+    ..SERVED
+};
+
 const TIMES_REFUSAL: Case = Case {
     status: Status::InputRefused,
-    out: b"",
+    out: "",
     ..TRACED
 };
 
 // Words, faults of the shelf and faults of the sinks.
-static CASES: [Case; 29] = [
+static CASES: [Case; 45] = [
     SERVED,
     // Words that are no command, and a name that begins with '-'.
     Case {
@@ -101,15 +145,27 @@ static CASES: [Case; 29] = [
         ..USAGE
     },
     Case {
-        words: &["ledger", NAME],
-        ..USAGE
-    },
-    Case {
         words: &[NAME, "analyse"],
         ..USAGE
     },
     Case {
         words: &["analyse", NAME, SECOND],
+        ..USAGE
+    },
+    Case {
+        words: &["ledger"],
+        ..USAGE
+    },
+    Case {
+        words: &["ledger", NAME, SECOND],
+        ..USAGE
+    },
+    Case {
+        words: &["check"],
+        ..USAGE
+    },
+    Case {
+        words: &["check", NAME, SECOND],
         ..USAGE
     },
     Case {
@@ -147,18 +203,63 @@ static CASES: [Case; 29] = [
     },
     Case {
         err_room: 0,
-        err: b"",
+        err: "",
         ..UNREAD
     },
     // Ten bytes a call, and then with a second call that fails.
     Case { most: 10, ..SERVED },
+    UNWRITTEN,
+    // The other commands that read a sheet alone: as they are served, and with each of these faults.
+    LEDGER,
+    Case { most: 10, ..LEDGER },
+    Case {
+        words: LEDGER_WORDS,
+        ..UNREAD
+    },
+    Case {
+        words: &["ledger", "t.toml"],
+        failing_read: 0,
+        err_room: 0,
+        err: "",
+        ..UNREAD
+    },
+    Case {
+        words: LEDGER_WORDS,
+        out: "prta ledge",
+        ..UNWRITTEN
+    },
+    CHECKED,
+    PASSED,
     Case {
         most: 10,
-        failing_put: 2,
-        status: Status::WriteFault,
-        out: b"prta analy",
-        err: b"prta: write fault\n",
+        err_room: 0,
+        ..CHECKED
+    },
+    Case {
+        words: CHECK_WORDS,
+        ..UNREAD
+    },
+    Case {
+        words: &["check", "t.toml"],
+        failing_read: 0,
+        err_room: 0,
+        err: "",
+        ..UNREAD
+    },
+    Case {
+        words: CHECK_WORDS,
+        out: "prta check",
+        ..UNWRITTEN
+    },
+    // A whole system.
+    Case {
+        sheet: Text::Given(SYSTEM),
+        out: SYSTEM_TEXT,
         ..SERVED
+    },
+    Case {
+        sheet: Text::Given(SYSTEM),
+        ..PASSED
     },
     TRACED,
     // A first and a second read that fail, missing names, and a third read that would fail.
@@ -184,7 +285,7 @@ static CASES: [Case; 29] = [
     // The sheet in the place of the times, and a name that begins with '-'.
     Case {
         words: &["simulate", NAME, NAME],
-        err: b"prta: input refused 2 value 1\n",
+        err: "prta: input refused 2 value 1\n",
         ..TIMES_REFUSAL
     },
     Case {
@@ -194,21 +295,61 @@ static CASES: [Case; 29] = [
     },
     // An err that fails at once changes no status.
     Case {
-        times: Text::Given(b"2"),
+        times: Text::Given("2"),
         err_room: 0,
-        err: b"",
+        err: "",
         ..TIMES_REFUSAL
     },
     // Ten bytes a call, and then with a second call that fails.
     Case { most: 10, ..TRACED },
     Case {
-        most: 10,
-        failing_put: 2,
-        status: Status::WriteFault,
-        out: b"prta simul",
-        err: b"prta: write fault\n",
-        ..TRACED
+        words: TRACE_WORDS,
+        sheet: Text::Given(PAIR),
+        out: "prta simul",
+        ..UNWRITTEN
     },
+];
+
+// The other commands, with nothing to read but the sheet.
+static OTHER_WORDS: [&[&str]; 3] = [LEDGER_WORDS, CHECK_WORDS, &["simulate", NAME, "t"]];
+
+const MANY_ANALYSED: Case = Case {
+    sheet: Text::Given(MANY),
+    room: 262_144,
+    most: 262_144,
+    out: MANY_START,
+    ..SERVED
+};
+
+const MANY_NOTED: Case = Case {
+    words: LEDGER_WORDS,
+    out: MANY_LEDGER_START,
+    ..MANY_ANALYSED
+};
+
+// Runs with long texts, of which out has the first lines; the length and the last lines.
+static LONG_TEXTS: [(Case, usize, &str); 4] = [
+    (
+        Case {
+            sheet: Text::Given(LONG),
+            times: Text::Ones(64, ""),
+            out: LONG_START,
+            ..TRACED
+        },
+        4_983,
+        LONG_END,
+    ),
+    (
+        Case {
+            sheet: Text::Given(SYSTEM),
+            out: SYSTEM_LEDGER_START,
+            ..LEDGER
+        },
+        5_143,
+        SYSTEM_LEDGER_END,
+    ),
+    (MANY_ANALYSED, 164_790, MANY_END),
+    (MANY_NOTED, 176_028, MANY_LEDGER_END),
 ];
 
 fn words_of(alloc: Global, words: &[&str]) -> Result<Vec<String>, Fail> {
@@ -247,14 +388,18 @@ fn run_of(alloc: Global, case: &Case) -> Result<(Status, MemorySink, MemorySink)
 
 fn ends_so(alloc: Global, case: &Case) -> Result<bool, Fail> {
     let (status, out, err) = run_of(alloc, case)?;
-    Ok(status == case.status && out.bytes() == case.out && err.bytes() == case.err)
+    Ok(
+        status == case.status
+            && out.bytes() == case.out.as_bytes()
+            && err.bytes() == case.err.as_bytes(),
+    )
 }
 
 // The case with another end: the text on out where the status is Done, else on err.
-fn ending(case: Case, status: Status, text: &'static [u8]) -> Case {
-    let (out, err): (&[u8], &[u8]) = match status {
-        Status::Done => (text, b""),
-        _ => (b"", text),
+fn ending(case: Case, status: Status, text: &'static str) -> Case {
+    let (out, err) = match status {
+        Status::Done => (text, ""),
+        _ => ("", text),
     };
     Case {
         status,
@@ -272,7 +417,7 @@ fn every_case_ends_so(rt: HostRuntime) -> Result<(), Fail> {
     Ok(())
 }
 
-// A refused sheet is told before the times are read.
+// A refused sheet is told by every command, before another file is read.
 #[test]
 fn every_sheet_ends_so(rt: HostRuntime) -> Result<(), Fail> {
     for (i, (sheet, status, text)) in SHEETS.iter().enumerate() {
@@ -282,13 +427,44 @@ fn every_sheet_ends_so(rt: HostRuntime) -> Result<(), Fail> {
         };
         assert!(rt; ends_so(rt.alloc(), &case)?, "sheet {i}");
         if *status == Status::SheetRefused {
-            let case = Case {
-                words: &["simulate", NAME, "t"],
-                failing_read: 2,
-                ..case
-            };
-            assert!(rt; ends_so(rt.alloc(), &case)?, "simulate with sheet {i}");
+            for words in OTHER_WORDS.iter() {
+                let case = Case {
+                    words,
+                    failing_read: 2,
+                    ..case
+                };
+                assert!(rt;
+                    ends_so(rt.alloc(), &case)?,
+                    "another command with sheet {i}"
+                );
+            }
         }
+    }
+    Ok(())
+}
+
+#[test]
+fn every_report_reads_so(rt: HostRuntime) -> Result<(), Fail> {
+    for (i, (sheet, numbers, entries, status, verdict)) in REPORTS.iter().enumerate() {
+        let analyse = Case {
+            sheet: *sheet,
+            out: numbers,
+            ..SERVED
+        };
+        let ledger = Case {
+            sheet: *sheet,
+            out: entries,
+            ..LEDGER
+        };
+        let check = Case {
+            sheet: *sheet,
+            status: *status,
+            out: verdict,
+            ..CHECKED
+        };
+        assert!(rt; ends_so(rt.alloc(), &analyse)?, "analyse {i}");
+        assert!(rt; ends_so(rt.alloc(), &ledger)?, "ledger {i}");
+        assert!(rt; ends_so(rt.alloc(), &check)?, "check {i}");
     }
     Ok(())
 }
@@ -308,31 +484,48 @@ fn every_file_of_times_ends_so(rt: HostRuntime) -> Result<(), Fail> {
 
 #[test]
 fn a_full_out_has_a_prefix(rt: HostRuntime) -> Result<(), Fail> {
-    for served in [SERVED, TRACED] {
-        for room in 0..served.out.len() {
-            let case = Case {
-                room,
-                out: &served.out[..room],
-                status: Status::WriteFault,
-                err: b"prta: write fault\n",
-                ..served
-            };
-            assert!(rt; ends_so(rt.alloc(), &case)?, "room {room}");
+    for served in [SERVED, LEDGER, CHECKED, PASSED, TRACED] {
+        let text = served.out.as_bytes();
+        for room in 0..text.len() {
+            let (status, out, err) = run_of(rt.alloc(), &Case { room, ..served })?;
+            assert!(rt; status == Status::WriteFault, "room {room}");
+            assert!(rt; out.bytes() == &text[..room], "room {room}");
+            assert!(rt; err.bytes() == WRITE_FAULT.as_bytes(), "room {room}");
         }
     }
     Ok(())
 }
 
 #[test]
-fn a_long_horizon(rt: HostRuntime) -> Result<(), Fail> {
-    let case = Case {
-        sheet: Text::Given(LONG),
-        times: Text::Ones(64, ""),
-        ..TRACED
-    };
-    let (status, out, _) = run_of(rt.alloc(), &case)?;
-    assert_eq!(rt; status, Status::Done);
-    assert!(rt; out.bytes().starts_with(LONG_START));
-    assert!(rt; out.bytes().ends_with(LONG_END));
+fn every_long_text_reads_so(rt: HostRuntime) -> Result<(), Fail> {
+    for (i, (case, length, end)) in LONG_TEXTS.iter().enumerate() {
+        let (status, out, _) = run_of(rt.alloc(), case)?;
+        assert!(rt; status == Status::Done, "long text {i}");
+        assert!(rt; out.bytes().len() == *length, "long text {i}");
+        assert!(rt;
+            out.bytes().starts_with(case.out.as_bytes()),
+            "long text {i}"
+        );
+        assert!(rt; out.bytes().ends_with(end.as_bytes()), "long text {i}");
+    }
+    Ok(())
+}
+
+// Where the put of the second page fails, out has the first one alone, of whole lines.
+#[test]
+fn a_long_report_goes_out_in_pages(rt: HostRuntime) -> Result<(), Fail> {
+    for case in [MANY_ANALYSED, MANY_NOTED] {
+        let failing = Case {
+            failing_put: 2,
+            ..case
+        };
+        let (_, whole, _) = run_of(rt.alloc(), &case)?;
+        let (status, page, _) = run_of(rt.alloc(), &failing)?;
+        assert!(rt; status == Status::WriteFault);
+        assert!(rt; whole.bytes().starts_with(page.bytes()));
+        assert!(rt; page.bytes().len() < whole.bytes().len());
+        assert!(rt; page.bytes().starts_with(case.out.as_bytes()));
+        assert!(rt; page.bytes().ends_with(b"\n"));
+    }
     Ok(())
 }

@@ -1,13 +1,17 @@
 //! The words of the command line, read by hand.
 
 ghost use Rattle.std.specs.Prelude.{◌≡◌, option_map};
-ghost use Rattle.prta_cli.specs.Words.{texts, command, command_of, sheet_name};
+ghost use Rattle.prta_cli.specs.Words.{texts, command, command_of, sheet_command, sheet_name};
 
 /// A command, with the names of the files that it reads.
-#[derive(Clone, Copy, Debug)]
+#[derive(Clone, Copy)]
 pub enum Command<'a> {
     /// `analyse SHEET`
     Analyse(&'a str),
+    /// `ledger SHEET`
+    Ledger(&'a str),
+    /// `check SHEET`
+    Check(&'a str),
     /// `simulate SHEET TIMES`
     Simulate(&'a str, &'a str),
 }
@@ -18,7 +22,7 @@ impl<'a> Command<'a> {
         ensures { result.now ≡ sheet_name (command_of self.now) }
     {
         match self {
-            Command::Analyse(sheet) => sheet,
+            Command::Analyse(sheet) | Command::Ledger(sheet) | Command::Check(sheet) => sheet,
             Command::Simulate(sheet, _) => sheet,
         }
     }
@@ -29,10 +33,22 @@ pub fn command_from(words: &[String]) -> Option<Command<'_>>
     ensures { option_map command_of result ≡ command (texts words.now) }
 {
     match words {
-        [word, sheet] if word.as_str() == "analyse" => Some(Command::Analyse(sheet.as_str())),
+        [word, sheet] => of_sheet(word.as_str(), sheet.as_str()),
         [word, sheet, times] if word.as_str() == "simulate" => {
             Some(Command::Simulate(sheet.as_str(), times.as_str()))
         }
+        _ => None,
+    }
+}
+
+// A command that reads a sheet alone, by its word.
+fn of_sheet<'a>(word: &str, sheet: &'a str) -> Option<Command<'a>>
+    ensures { option_map command_of result ≡ sheet_command word.now sheet.now }
+{
+    match word {
+        "analyse" => Some(Command::Analyse(sheet)),
+        "ledger" => Some(Command::Ledger(sheet)),
+        "check" => Some(Command::Check(sheet)),
         _ => None,
     }
 }

@@ -1,2 +1,3 @@
 pub mod RunsInTurn
 pub mod TraceMisses
+pub mod OwnJobs

@@ -1,39 +1,65 @@
--- The texts that the program writes.
-use Rattle.std.specs.Prelude.{ℕ, ◌++◌, nat_eq, Option, Some, None, List, filter, flat_map, length, codes, decimal}
+-- The lines of the texts that the program writes.
+use Rattle.std.specs.Prelude.{ℕ, ◌++◌, Option, Some, None, List, codes, decimal}
 use Rattle.prta_mass.specs.Decimal.{decimal_below, decimal_above}
-use Rattle.prta_sheet.specs.Sheet.{Task, Sheet, task_at, sheet_order, hyperperiod}
-use Rattle.prta_sheet.specs.Job.{Job, deadline_of, analysed_jobs}
+use Rattle.prta_mass.specs.declared.direction.Dir.{Dir}
+use Rattle.prta_mass.specs.declared.direction.Dir.TheVariants.{Up, Down}
+use Rattle.prta_sheet.specs.Sheet.{Task, task_at}
+use Rattle.prta_sheet.specs.Job.{Job, deadline_of}
+use Rattle.prta_ledger.specs.declared.entry.Entry.{Entry}
+use Rattle.prta_ledger.specs.declared.entry.Kind.{Kind}
+use Rattle.prta_ledger.specs.declared.entry.Kind.TheVariants.{Round, Cut, Resample, Delay}
+use Rattle.prta_dual.specs.declared.bounds.Bounds.{Bounds}
 
--- the two numbers of a job, in units of 2^-60
-pub record Numbers : Type 0 where
-  pub lower : ℕ
-  pub upper : ℕ
+-- a sheet's hyperperiod and its number of analysed jobs
+unfoldable pub count_line : ℕ → ℕ → List ℕ
+count_line hyperperiod jobs = codes "hyperperiod " ++ decimal hyperperiod ++ codes " jobs " ++ decimal jobs ++ codes "\n"
 
--- the first two lines of the text of `analyse`: the command, and the sheet's hyperperiod and number of analysed jobs
-unfoldable pub head_text : ℕ → ℕ → List ℕ
-head_text hyperperiod jobs = codes "prta analyse 1\n" ++ codes "hyperperiod " ++ decimal hyperperiod ++ codes " jobs " ++ decimal jobs ++ codes "\n"
-
--- the line of a job, by its task's name, its number, release and absolute deadline, with its two numbers, each as it is and as a decimal
-unfoldable pub job_line : List ℕ → ℕ → ℕ → ℕ → Numbers → List ℕ
-job_line name number release deadline numbers =
+-- a job, by its task's name, its number, release and absolute deadline, with its two numbers, each as it is and as a decimal
+unfoldable pub job_line : List ℕ → ℕ → ℕ → ℕ → Bounds → List ℕ
+job_line name number release deadline bounds =
     codes "job " ++ name ++ codes " " ++ decimal number
     ++ codes " release " ++ decimal release ++ codes " deadline " ++ decimal deadline
-    ++ codes " lower " ++ decimal numbers.lower ++ codes " " ++ decimal_below numbers.lower
-    ++ codes " upper " ++ decimal numbers.upper ++ codes " " ++ decimal_above numbers.upper ++ codes "\n"
+    ++ codes " lower " ++ decimal bounds.lower ++ codes " " ++ decimal_below bounds.lower
+    ++ codes " upper " ++ decimal bounds.upper ++ codes " " ++ decimal_above bounds.upper ++ codes "\n"
 
-abbrev pub line_of_job : List Task → Job → Numbers → List ℕ
-line_of_job tasks job numbers = job_line (task_at tasks job.task).name job.number job.release (deadline_of tasks job) numbers
+abbrev pub line_of_job : List Task → Job → Bounds → List ℕ
+line_of_job tasks job bounds = job_line (task_at tasks job.task).name job.number job.release (deadline_of tasks job) bounds
 
--- the analysed jobs by task in sheet order, and then by number
-abbrev pub jobs_by_task : Sheet → List Job
-jobs_by_task sheet = flat_map (λ i. filter (λ job. nat_eq job.task i) (analysed_jobs sheet)) (sheet_order sheet.tasks)
+abbrev pub dir_text : Dir → List ℕ
+dir_text Up = codes "up"
+dir_text Down = codes "down"
 
--- the text of `analyse` for a sheet, where each job has these numbers
-abbrev pub analyse_text : Sheet → (Job → Numbers) → List ℕ
-analyse_text sheet numbers =
-    head_text (hyperperiod sheet.tasks) (length (analysed_jobs sheet))
-    ++ flat_map (λ job. line_of_job sheet.tasks job (numbers job)) (jobs_by_task sheet)
-    ++ codes "end\n"
+abbrev pub kind_text : Kind → List ℕ
+kind_text Round = codes "round"
+kind_text Cut = codes "cut"
+kind_text Resample = codes "resample"
+kind_text Delay = codes "delay"
+
+-- an entry of the ledger, with its task's name: the job that it names, the number of its operation and the amount
+unfoldable pub entry_line : List ℕ → Entry → List ℕ
+entry_line name entry =
+    codes "entry " ++ dir_text entry.dir ++ codes " " ++ kind_text entry.kind ++ codes " " ++ name ++ codes " " ++ decimal entry.job
+    ++ codes " " ++ decimal entry.op ++ codes " " ++ decimal entry.amount ++ codes "\n"
+
+abbrev pub line_of_entry : List Task → Entry → List ℕ
+line_of_entry tasks entry = entry_line (task_at tasks entry.task).name entry
+
+-- a job's two numbers, and what its entries add up to
+unfoldable pub gap_line : List ℕ → ℕ → Bounds → ℕ → List ℕ
+gap_line name number bounds sum =
+    codes "gap " ++ name ++ codes " " ++ decimal number ++ codes " lower " ++ decimal bounds.lower ++ codes " upper " ++ decimal bounds.upper
+    ++ codes " sum " ++ decimal sum ++ codes "\n"
+
+abbrev pub line_of_gap : List Task → Job → Bounds → ℕ → List ℕ
+line_of_gap tasks job bounds sum = gap_line (task_at tasks job.task).name job.number bounds sum
+
+-- a job whose upper number doesn't pass its task's allowance
+unfoldable pub no_line : List ℕ → ℕ → ℕ → ℕ × ℕ → List ℕ
+no_line name number upper allow =
+    codes "no " ++ name ++ codes " " ++ decimal number ++ codes " upper " ++ decimal upper ++ codes " allow " ++ decimal allow.0 ++ codes " " ++ decimal allow.1 ++ codes "\n"
+
+abbrev pub line_of_no : List Task → Job → ℕ → List ℕ
+line_of_no tasks job upper = let task = task_at tasks job.task in no_line task.name job.number upper task.allow
 
 -- the line of a stretch of ticks in which a job runs, or none
 unfoldable pub busy_line : List ℕ → ℕ → ℕ → ℕ → List ℕ

@@ -3,6 +3,8 @@
 ghost use Rattle.std.specs.Prelude.{◌≡◌};
 ghost use Rattle.prta_report.specs.TraceLaws.{RunsAreLongest, TraceTellsMisses};
 ghost use Rattle.prta_report.specs.WorkedTraces.{WorkedTraces};
+ghost use Rattle.prta_report.specs.AnalysisLaws.{OwnJobsInTurn};
+ghost use Rattle.prta_report.specs.WorkedTexts.{WorkedTexts};
 
 use crate::page::LINE;
 use prta_ticksim::finishes_tell_misses;
@@ -28,3 +30,14 @@ pub fn trace_tells_misses()
 {
     finishes_tell_misses();
 }
+
+/// The analysed jobs of a task, in their order, are its jobs of the numbers from 0 on.
+pub fn own_jobs_in_turn()
+    ensures { OwnJobsInTurn }
+{}
+
+/// The texts of `analyse`, `ledger` and `check` for small sheets: numbers that are exact, rounded and delayed, and an upper
+/// number at its task's allowance and past it.
+pub fn worked_texts()
+    ensures { WorkedTexts }
+{}
