@@ -1,4 +1,5 @@
 pub mod Released
+pub mod OwnReleases
 pub mod Notes
 pub mod Steps
 pub mod Dominance

@@ -8,6 +8,10 @@ pub record Level : Type 0 where
   pub higher : ℕ → Bool
   pub own : ℕ
 
+-- the level of a task in the sheet's own order: exactly the tasks before it are higher
+abbrev pub sheet_level : ℕ → Level
+sheet_level i = record { higher = λ j. nat_lt j i; own = i }
+
 -- a task is of the level: the own one, or a higher one
 abbrev pub has_task : Level → ℕ → Bool
 has_task level i = nat_eq i level.own || level.higher i

@@ -6,10 +6,9 @@ use Rattle.prta_sheet.specs.Sheet.{Task, Sheet}
 use Rattle.prta_sheet.specs.Accepted.{IsTask, IsAccepted}
 use Rattle.prta_jobs.specs.TaskSet.{holds}
 use Rattle.prta_jobs.specs.Instant.{IsOnSheet}
-use Rattle.prta_backlog.specs.Level.{has_task}
+use Rattle.prta_backlog.specs.Level.{has_task, sheet_level}
 use Rattle.prta_backlog.specs.Pass.{level_of}
 use Rattle.prta_response.specs.Laws.{IsLevelOf}
-use Rattle.prta_certificate.specs.Certificate.{sheet_level}
 
 module _ (below : List Bool) (task : ℕ) (members : (i : ℕ) → holds below i ≡ nat_lt i task) where
   -- the tasks before one are those below its number

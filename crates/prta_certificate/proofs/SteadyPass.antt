@@ -14,7 +14,7 @@ use Rattle.prta_backlog.proofs.Images.{InImage, image_start, image_step, same_le
 use Rattle.prta_response.specs.Response.{meeting_cell}
 use Rattle.prta_certificate.specs.Certificate.{steady_number}
 use Rattle.prta_certificate.proofs.FirstJobs.{release_within}
-use Rattle.prta_dual.proofs.OwnReleases.{Awaits, awaits_still, awaits_next, release_at, release_is, instant_within}
+use Rattle.prta_backlog.proofs.OwnReleases.{Awaits, awaits_still, awaits_next, release_at, release_is, instant_within}
 
 module _ (sheet : Sheet) (start : List ℕ) (higher : List Bool) (task : ℕ) where
   abbrev end : ℕ

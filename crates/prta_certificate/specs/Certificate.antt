@@ -1,5 +1,5 @@
 -- Certificates: lists that bound the backlog at the start of every hyperperiod.
-use Rattle.std.specs.Prelude.{ℕ, Option, None, Bool, ◌&&◌, is_none, nat_eq, nat_lt, List}
+use Rattle.std.specs.Prelude.{ℕ, Option, None, Bool, ◌&&◌, is_none, nat_eq, List}
 use Rattle.prta_mass.specs.Unit.{unit}
 use Rattle.prta_mass.specs.Chances.{last, IsWhole, Dominates}
 use Rattle.prta_mass.specs.declared.direction.Dir.TheVariants.{Up}
@@ -10,10 +10,6 @@ use Rattle.prta_dist.specs.Curve.{first_break}
 use Rattle.prta_backlog.specs.Level.{Level}
 use Rattle.prta_backlog.specs.LevelRun.{image}
 use Rattle.prta_response.specs.Response.{number_from}
-
--- the level of a task in the sheet's own order: exactly the tasks before it are higher
-abbrev pub sheet_level : ℕ → Level
-sheet_level i = record { higher = λ j. nat_lt j i; own = i }
 
 -- the image of a list, one hyperperiod later
 abbrev pub next_image : List Task → Level → List ℕ → List ℕ

@@ -3,7 +3,8 @@
 ghost use Rattle.std.specs.Prelude.{◌≡◌, ◌↔◌, ◌<◌, None, length};
 ghost use Rattle.prta_mass.specs.Chances.{IsWhole};
 ghost use Rattle.prta_backlog.specs.Bench.{HaveOneCap};
-ghost use Rattle.prta_certificate.specs.Certificate.{Certifies, broken_at, sheet_level};
+ghost use Rattle.prta_backlog.specs.Level.{sheet_level};
+ghost use Rattle.prta_certificate.specs.Certificate.{Certifies, broken_at};
 
 use prta_backlog::{Bench, image};
 use prta_dist::{Break, Curve, Kernel};

@@ -5,7 +5,8 @@ ghost use Rattle.prta_mass.specs.Chances.{point};
 ghost use Rattle.prta_backlog.specs.Bench.{HaveOneCap};
 ghost use Rattle.prta_backlog.specs.Greatest.{worst_backlog as worst_backlog_of};
 ghost use Rattle.prta_dist.specs.Curve.{lower as lower_of};
-ghost use Rattle.prta_certificate.specs.Certificate.{next_image, certifies, sheet_level};
+ghost use Rattle.prta_backlog.specs.Level.{sheet_level};
+ghost use Rattle.prta_certificate.specs.Certificate.{next_image, certifies};
 ghost use Rattle.prta_certificate.specs.Candidates.{image_of_point, lowered, slack, verdict_of, list_of};
 ghost use Rattle.prta_certificate.specs.Search.{ImagesTried, LoweredTried};
 

@@ -15,7 +15,8 @@ use Rattle.prta_resample.proofs.Moving.{below_largest}
 use Rattle.prta_backlog.specs.Room.{own_jobs}
 use Rattle.prta_dual.specs.declared.bounds.Bounds.{Bounds}
 use Rattle.prta_dual.specs.Numbers.{bounds_of, all_bounds}
-use Rattle.prta_report.specs.Analysis.{sheet_level, bounds_in, upper_passes, failing_job, check_text}
+use Rattle.prta_backlog.specs.Level.{sheet_level}
+use Rattle.prta_report.specs.Analysis.{bounds_in, upper_passes, failing_job, check_text}
 use Rattle.prta_cli.specs.Answer.{checking, told, told_no}
 use Rattle.prta_report.specs.AnalysisLaws.{OwnJobsInTurn}
 use Rattle.prta_cli.specs.Report.{most_jobs}

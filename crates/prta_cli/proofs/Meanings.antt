@@ -19,7 +19,8 @@ use Rattle.prta_backlog.specs.Room.{own_jobs}
 use Rattle.prta_response.specs.Chance.{IsOrderFor}
 use Rattle.prta_response.specs.Laws.{NumbersAreAround}
 use Rattle.prta_dual.specs.Laws.{GapIsNoted}
-use Rattle.prta_report.specs.Analysis.{sheet_level, bounds_in, sum_in, upper_passes, failing_job}
+use Rattle.prta_backlog.specs.Level.{sheet_level}
+use Rattle.prta_report.specs.Analysis.{bounds_in, sum_in, upper_passes, failing_job}
 use Rattle.prta_report.specs.AnalysisLaws.{OwnJobsInTurn}
 use Rattle.prta_cli.specs.Meaning.{AreAround, AreClose, ChancesPass}
 use Rattle.prta_cli.proofs.Finding.{none_passes, none_in_each}

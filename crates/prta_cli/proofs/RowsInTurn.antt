@@ -8,13 +8,12 @@ use Rattle.prta_mass.specs.Unit.{unit}
 use Rattle.prta_sheet.specs.Sheet.{Sheet}
 use Rattle.prta_sheet.specs.Job.{Job, nth_job}
 use Rattle.prta_sheet.specs.Counts.{job_count}
-use Rattle.prta_backlog.specs.Level.{Level}
+use Rattle.prta_backlog.specs.Level.{Level, sheet_level}
 use Rattle.prta_backlog.specs.Room.{own_jobs}
 use Rattle.prta_dual.specs.declared.bounds.Bounds.{Bounds}
 use Rattle.prta_dual.specs.Numbers.{bounds_of, all_bounds}
 use Rattle.prta_dual.specs.Entries.{job_sum}
 use Rattle.prta_report.specs.Text.{line_of_job, line_of_gap}
-use Rattle.prta_report.specs.Analysis.{sheet_level}
 use Rattle.prta_cli.specs.Writing.{TookPart, TookAllBut}
 use Rattle.prta_cli.proofs.Taking.{more_put, longer, part_then, part_of_more}
 use Rattle.prta_cli.proofs.Lines.{lines_more}

@@ -8,7 +8,8 @@ ghost use Rattle.prta_response.specs.Fitting.{FitsCap};
 ghost use Rattle.prta_dual.specs.Numbers.{all_bounds};
 ghost use Rattle.prta_dual.specs.Entries.{entries};
 ghost use Rattle.prta_report.specs.Text.{line_of_entry};
-ghost use Rattle.prta_report.specs.Analysis.{sheet_level, analyse_rows, entry_rows, gap_rows};
+ghost use Rattle.prta_backlog.specs.Level.{sheet_level};
+ghost use Rattle.prta_report.specs.Analysis.{analyse_rows, entry_rows, gap_rows};
 ghost use Rattle.prta_cli.specs.Report.{rows};
 ghost use Rattle.prta_cli.specs.Writing.{TookPart, TookAllBut};
 

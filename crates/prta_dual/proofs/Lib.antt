@@ -6,6 +6,5 @@ pub mod Sums
 pub mod Gap
 pub mod RoomSoFar
 pub mod Room
-pub mod OwnReleases
 pub mod Passing
 pub mod Writing

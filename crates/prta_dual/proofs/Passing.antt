@@ -25,7 +25,7 @@ use Rattle.prta_response.specs.Delays.{delay_entries}
 use Rattle.prta_dual.specs.Entries.{list_after, entries_before}
 use Rattle.prta_dual.proofs.Stretches.{ends_at_once, ends_after_last, end_within, released_before_end, still_entries}
 use Rattle.prta_dual.proofs.RoomSoFar.{few_before, few_at}
-use Rattle.prta_dual.proofs.OwnReleases.{Awaits, awaits_still, awaits_next, release_at, release_is, instant_within, no_own_job, own_job}
+use Rattle.prta_backlog.proofs.OwnReleases.{Awaits, awaits_still, awaits_next, release_at, release_is, instant_within, no_own_job, own_job}
 
 -- ---- what is noted
 

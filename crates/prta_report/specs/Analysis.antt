@@ -1,20 +1,16 @@
 -- The texts of `analyse`, `ledger` and `check`, as functions of a sheet.
-use Rattle.std.specs.Prelude.{ℕ, ◌++◌, Bool, not, nat_lt, Option, List, find, flat_map, codes}
+use Rattle.std.specs.Prelude.{ℕ, ◌++◌, Bool, not, Option, List, find, flat_map, codes}
 use Rattle.std.specs.Option.{option_map_or}
 use Rattle.prta_mass.specs.Passing.{passes}
 use Rattle.prta_sheet.specs.Sheet.{Sheet, task_at, sheet_order, hyperperiod}
 use Rattle.prta_sheet.specs.Job.{Job}
 use Rattle.prta_sheet.specs.Counts.{all_jobs}
-use Rattle.prta_backlog.specs.Level.{Level}
+use Rattle.prta_backlog.specs.Level.{Level, sheet_level}
 use Rattle.prta_backlog.specs.Room.{own_jobs}
 use Rattle.prta_dual.specs.declared.bounds.Bounds.{Bounds}
 use Rattle.prta_dual.specs.Numbers.{lower, upper}
 use Rattle.prta_dual.specs.Entries.{entries, job_sum}
 use Rattle.prta_report.specs.Text.{count_line, line_of_job, line_of_entry, line_of_gap, line_of_no}
-
--- the level of a task in the sheet's own order: exactly the tasks before it are higher
-abbrev pub sheet_level : ℕ → Level
-sheet_level i = record { higher = λ j. nat_lt j i; own = i }
 
 -- the two numbers of a job there, and what its entries add up to
 abbrev pub bounds_in : Sheet → Job → Bounds

@@ -2,7 +2,6 @@ pub mod Each
 pub mod Sums
 pub mod Weighing
 pub mod First
-pub mod Alone
 pub mod Worked
 pub mod Items
 pub mod FirstOf

@@ -1,15 +1,12 @@
 -- Laws of the model, each the contract of a function.
-use Rattle.std.specs.Prelude.{◌≡◌, ℕ, ◌+◌, ◌-◌, ◌*◌, ◌/◌, ◌%◌, ◌<◌, ◌≤◌, Bool, true, nat_lt, nat_eq, List, [], ◌∷◌, ◌++◌, filter, sum_by, length, All}
+use Rattle.std.specs.Prelude.{◌≡◌, ℕ, ◌+◌, ◌-◌, ◌*◌, ◌/◌, ◌%◌, ◌<◌, ◌≤◌, Bool, true, nat_eq, List, ◌∷◌, ◌++◌, filter, sum_by, length, All}
 use Rattle.std.specs.List.{AllByRecursion}
-use Rattle.std.specs.Int.{div_ceil}
-use Rattle.prta_mass.specs.Unit.{unit}
 use Rattle.prta_mass.specs.Table.{Table, total}
 use Rattle.prta_sheet.specs.Sheet.{Task, task_at, table_in, cycle_ticks, hyperperiod}
-use Rattle.prta_sheet.specs.Job.{Job, nth_job, jobs_before}
+use Rattle.prta_sheet.specs.Job.{Job, jobs_before}
 use Rattle.prta_sheet.specs.Counts.{releases}
 use Rattle.prta_sheet.specs.Assignment.{Timed, assignments, weight_of, times_of, total_of}
 use Rattle.prta_sheet.specs.Machine.{goes_before, after, remaining}
-use Rattle.prta_sheet.specs.Chance.{miss_weight, chance_total, IsAround}
 use Rattle.prta_sheet.specs.Weights.{one_if, weigh, jobs_of}
 
 -- sums over the list of all assignments are sums by recursion over the jobs
@@ -33,34 +30,6 @@ ServedFirst =
     (order : List ℕ) (first last : List Timed) (own : Timed) →
     AllByRecursion (λ e. goes_before order own.job e.job ≡ true) (first ++ last) →
     (n : ℕ) → remaining own.job (after order (first ++ own ∷ last) n) ≡ own.time - (n - own.job.release)
-
--- the weight of the times above a number of ticks
-abbrev pub weight_above : ℕ → Table → ℕ
-weight_above limit table = sum_by (λ pair. pair.1) (filter (λ pair. nat_lt limit pair.0) table)
-
--- the first job of a task that stands alone on its sheet
-abbrev pub first_job_of : Task → Job
-first_job_of task = nth_job (task ∷ []) 0 0
-
--- alone, the first job misses where its own time is above its deadline: the jobs after it multiply both weights by the same number
-abbrev pub FirstJobAlone : Type 0
-FirstJobAlone =
-    (task : Task) → 0 < task.deadline →
-    (rest : ℕ)
-    × (miss_weight (task ∷ []) (0 ∷ []) (first_job_of task) ≡ weight_above task.deadline (table_in task 0) * rest)
-    × (chance_total (task ∷ []) (first_job_of task) ≡ total (table_in task 0) * rest)
-
--- so the quotient of the weight above the deadline by the table's total, rounded down and rounded up, is around the exact chance
-abbrev pub QuotientsAreAround : Type 0
-QuotientsAreAround =
-    (task : Task) → 0 < task.deadline → 0 < total (table_in task 0) →
-    IsAround (task ∷ []) (0 ∷ []) (first_job_of task)
-    (unit * weight_above task.deadline (table_in task 0) / total (table_in task 0))
-    (div_ceil (unit * weight_above task.deadline (table_in task 0)) (total (table_in task 0)))
-
--- alone, with one table and released before its period is over, it is the only job of the first hyperperiod
-abbrev pub OneJob : Type 0
-OneJob = (task : Task) → task.offset < task.period → length task.cycle ≡ 1 → jobs_before (task ∷ []) (hyperperiod (task ∷ [])) ≡ first_job_of task ∷ []
 
 -- a number is a positive multiple of the ticks of every cycle, and no smaller one is
 pub record IsLeastMultiple (tasks : List Task) (n : ℕ) : Type 0 where

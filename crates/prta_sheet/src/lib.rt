@@ -24,9 +24,8 @@ pub use limits::{
 };
 pub use making::make_sheet;
 pub use model::{
-    copies_have_their_table, first_job_alone, hyperperiod_is_least, independent_job, one_job,
-    quotients_are_around, releases_before, served_first, stated_limits, sums_over_assignments,
-    worked_values,
+    copies_have_their_table, hyperperiod_is_least, independent_job, releases_before, served_first,
+    stated_limits, sums_over_assignments, worked_values,
 };
 pub use reading::{read_sheet, refused_sheets, second_format_is_read};
 pub use settings::Settings;

@@ -2,7 +2,7 @@
 
 ghost use Rattle.prta_sheet.specs.Limits.{StatedLimits};
 ghost use Rattle.prta_sheet.specs.Worked.{WorkedValues};
-ghost use Rattle.prta_sheet.specs.Laws.{SumsOverAssignments, IndependentJob, ServedFirst, FirstJobAlone, QuotientsAreAround, OneJob, HyperperiodIsLeast, CopiesHaveTheirTable, ReleasesBefore};
+ghost use Rattle.prta_sheet.specs.Laws.{SumsOverAssignments, IndependentJob, ServedFirst, HyperperiodIsLeast, CopiesHaveTheirTable, ReleasesBefore};
 
 /// The definitions of the model on small sheets: chances of a miss, finishes and the machine's trace.
 pub fn worked_values()
@@ -22,21 +22,6 @@ pub fn independent_job()
 /// A job that goes before every other one is served from its release on, until its time is used up.
 pub fn served_first()
     ensures { ServedFirst }
-{}
-
-/// The first job of a task that stands alone misses with the weight of its times above the deadline.
-pub fn first_job_alone()
-    ensures { FirstJobAlone }
-{}
-
-/// The quotients of that weight by the table's total, rounded down and up, are around the exact chance.
-pub fn quotients_are_around()
-    ensures { QuotientsAreAround }
-{}
-
-/// A task alone with one table releases just its first job in the first hyperperiod.
-pub fn one_job()
-    ensures { OneJob }
 {}
 
 /// The hyperperiod is positive, every task's period times the length of its cycle divides it, and no smaller positive

@@ -2,7 +2,8 @@
 use Rattle.std.proofs.Common.{◌≡◌, refl, ap₂, sym, ◌∙◌, subst}
 use Rattle.prta_mass.specs.Chances.{Dominates}
 use Rattle.prta_dist.specs.Curve.{first_break}
-use Rattle.prta_certificate.specs.Certificate.{next_image, sheet_level}
+use Rattle.prta_backlog.specs.Level.{sheet_level}
+use Rattle.prta_certificate.specs.Certificate.{next_image}
 use Rattle.prta_certificate.proofs.SheetLevels.{level_below}
 use Rattle.prta_certificate.proofs.checking.check.Given as given
 use Rattle.prta_certificate.proofs.checking.check.Goals as goal

@@ -1,9 +1,8 @@
 -- Each answer is the verdict that the step of the search decides.
 use Rattle.std.proofs.Common.{◌≡◌, ℕ, ◌≤◌, ◌<◌, List, ap, ap₂, sym, ◌∙◌, arith}
 use Rattle.prta_sheet.specs.Sheet.{Task, hyperperiod}
-use Rattle.prta_backlog.specs.Level.{Level}
+use Rattle.prta_backlog.specs.Level.{Level, sheet_level}
 use Rattle.prta_backlog.specs.Greatest.{greatest_work, peak}
-use Rattle.prta_certificate.specs.Certificate.{sheet_level}
 use Rattle.prta_certificate.specs.Candidates.{verdict_of}
 use Rattle.prta_certificate.specs.declared.verdict.Verdict.TheVariants.{Slack, OverFull, BeyondCap}
 use Rattle.prta_certificate.specs.Search.{WorkDecides, NoImage}

@@ -1,7 +1,7 @@
 use Rattle.std.proofs.Common.{◌≡◌, ℕ, suc, ◌+◌, arith, List, length, ap, sym, ◌∙◌}
 use Rattle.prta_sheet.specs.Sheet.{Task}
-use Rattle.prta_backlog.specs.Level.{Level}
-use Rattle.prta_certificate.specs.Certificate.{next_image, certifies, sheet_level}
+use Rattle.prta_backlog.specs.Level.{Level, sheet_level}
+use Rattle.prta_certificate.specs.Certificate.{next_image, certifies}
 use Rattle.prta_certificate.specs.Candidates.{image_of_point}
 use Rattle.prta_certificate.proofs.Search.{one_more_fails}
 use Rattle.prta_certificate.proofs.searching.first_image.Goals as goal

@@ -1,7 +1,8 @@
 -- the main curve is the image of this number, and none before it certifies
 use Rattle.std.proofs.Common.{◌≡◌, ℕ, ◌<◌, false, length}
 use Rattle.prta_backlog.specs.Bench.{HaveOneCap}
-use Rattle.prta_certificate.specs.Certificate.{certifies, sheet_level}
+use Rattle.prta_backlog.specs.Level.{sheet_level}
+use Rattle.prta_certificate.specs.Certificate.{certifies}
 use Rattle.prta_certificate.specs.Candidates.{image_of_point}
 use Rattle.prta_certificate.proofs.searching.first_image.Given as goal
 

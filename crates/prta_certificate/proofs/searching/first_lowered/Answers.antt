@@ -1,8 +1,8 @@
 use Rattle.std.proofs.Common.{◌≡◌, ℕ, List, ap, ap₂, sym, ◌∙◌}
 use Rattle.prta_sheet.specs.Sheet.{Task}
 use Rattle.prta_dist.specs.Curve.{lower}
-use Rattle.prta_backlog.specs.Level.{Level}
-use Rattle.prta_certificate.specs.Certificate.{certifies, sheet_level}
+use Rattle.prta_backlog.specs.Level.{Level, sheet_level}
+use Rattle.prta_certificate.specs.Certificate.{certifies}
 use Rattle.prta_certificate.specs.Candidates.{lowered, slack}
 use Rattle.prta_certificate.proofs.Search.{one_more_fails}
 use Rattle.prta_certificate.proofs.searching.first_lowered.Goals as goal

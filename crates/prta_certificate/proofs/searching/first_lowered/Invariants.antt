@@ -1,7 +1,8 @@
 -- the list that is lowered stands on the spare curve, and none that was lowered before certifies
 use Rattle.std.proofs.Common.{◌≡◌, ℕ, ◌<◌, false}
 use Rattle.prta_backlog.specs.Bench.{HaveOneCap}
-use Rattle.prta_certificate.specs.Certificate.{certifies, sheet_level}
+use Rattle.prta_backlog.specs.Level.{sheet_level}
+use Rattle.prta_certificate.specs.Certificate.{certifies}
 use Rattle.prta_certificate.specs.Candidates.{lowered, slack}
 use Rattle.prta_certificate.proofs.searching.first_lowered.Given as goal
 

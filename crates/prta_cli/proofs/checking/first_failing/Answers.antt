@@ -3,7 +3,7 @@ use Rattle.std.proofs.lemmas.List.{get_or_read}
 use Rattle.prta_sheet.specs.Sheet.{Task, task_at}
 use Rattle.prta_dual.specs.declared.bounds.Bounds.{Bounds}
 use Rattle.prta_dual.specs.Numbers.{all_bounds}
-use Rattle.prta_report.specs.Analysis.{sheet_level}
+use Rattle.prta_backlog.specs.Level.{sheet_level}
 use Rattle.prta_cli.proofs.Checks.{is_above, failing_number, failing_more, number_within, is_failing, count_within, few_jobs, listed}
 use Rattle.prta_cli.proofs.checking.first_failing.Given as given
 use Rattle.prta_cli.proofs.checking.first_failing.Goals as goal

@@ -4,13 +4,12 @@ use Rattle.std.proofs.Math.Seq.{take-append_seam}
 use Rattle.std.proofs.lemmas.Bool.{le-ltb}
 use Rattle.prta_sheet.specs.Sheet.{Sheet}
 use Rattle.prta_ledger.specs.declared.entry.Entry.{Entry}
-use Rattle.prta_backlog.specs.Level.{Level}
+use Rattle.prta_backlog.specs.Level.{Level, sheet_level}
 use Rattle.prta_backlog.specs.Pass.{level_of}
 use Rattle.prta_backlog.specs.Room.{room_for}
 use Rattle.prta_dual.specs.declared.bounds.Bounds.{Bounds}
 use Rattle.prta_dual.specs.Numbers.{all_bounds}
 use Rattle.prta_dual.specs.Entries.{entries}
-use Rattle.prta_report.specs.Analysis.{sheet_level}
 use Rattle.prta_cli.proofs.RowsInTurn.{count_found}
 use Rattle.prta_cli.proofs.rows.analyse_into.Given as given
 use Rattle.prta_cli.proofs.rows.analyse_into.Goals as goal

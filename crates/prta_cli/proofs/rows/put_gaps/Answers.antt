@@ -8,7 +8,8 @@ use Rattle.prta_dual.specs.Numbers.{bounds_of}
 use Rattle.prta_ledger.specs.Sums.{sum_for}
 use Rattle.prta_dual.specs.Entries.{job_sum}
 use Rattle.prta_report.specs.Text.{line_of_gap}
-use Rattle.prta_report.specs.Analysis.{sheet_level, gap_rows, bounds_in, sum_in}
+use Rattle.prta_backlog.specs.Level.{sheet_level}
+use Rattle.prta_report.specs.Analysis.{gap_rows, bounds_in, sum_in}
 use Rattle.prta_cli.specs.Writing.{TookPart, TookAllBut}
 use Rattle.prta_cli.proofs.RowsInTurn.{gap_row, InTurn, rows_in_turn, row_pushed, row_cut, bounds_at, count_found}
 use Rattle.prta_cli.proofs.Checks.{few_jobs}

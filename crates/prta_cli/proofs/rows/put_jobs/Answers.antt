@@ -6,7 +6,8 @@ use Rattle.prta_sheet.specs.Counts.{job_count}
 use Rattle.prta_dual.specs.declared.bounds.Bounds.{Bounds}
 use Rattle.prta_dual.specs.Numbers.{bounds_of}
 use Rattle.prta_report.specs.Text.{line_of_job}
-use Rattle.prta_report.specs.Analysis.{sheet_level, analyse_rows, bounds_in}
+use Rattle.prta_backlog.specs.Level.{sheet_level}
+use Rattle.prta_report.specs.Analysis.{analyse_rows, bounds_in}
 use Rattle.prta_cli.specs.Writing.{TookPart, TookAllBut}
 use Rattle.prta_cli.proofs.RowsInTurn.{job_row, InTurn, rows_in_turn, row_pushed, row_cut, bounds_at, low_bounds, count_found}
 use Rattle.prta_cli.proofs.Checks.{few_jobs}

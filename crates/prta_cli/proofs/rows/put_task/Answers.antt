@@ -2,7 +2,8 @@ use Rattle.std.proofs.Common.{rules, ◌≡◌, ℕ, ◌++◌, List, flat_map, a
 use Rattle.prta_sheet.specs.Sheet.{Sheet}
 use Rattle.prta_report.specs.Text.{line_of_entry}
 use Rattle.prta_dual.specs.Entries.{entries}
-use Rattle.prta_report.specs.Analysis.{sheet_level, entry_rows, gap_rows}
+use Rattle.prta_backlog.specs.Level.{sheet_level}
+use Rattle.prta_report.specs.Analysis.{entry_rows, gap_rows}
 use Rattle.prta_cli.specs.Writing.{TookPart, TookAllBut}
 use Rattle.prta_cli.proofs.Taking.{more_put, longer, part_then, part_of_more}
 use Rattle.prta_cli.proofs.OwnEntries.{own_entries}
