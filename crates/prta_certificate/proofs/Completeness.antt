@@ -106,7 +106,7 @@ lowered_all cap top cells size chances =
     none k = omega (arith, at_limited cells k chances)
 
 module _ (tasks : List Task) (level : Level) (cap : ℕ) (of : IsLevelOf tasks level) (some : 0 < cap) where
-  images_stay : (j : ℕ) → StaysChances (point cap 0) (image_of_point tasks level cap j)
+  pub images_stay : (j : ℕ) → StaysChances (point cap 0) (image_of_point tasks level cap j)
   images_stay zero = record { chances = point_chances cap 0; size = refl }
   images_stay (suc j) =
       let was : StaysChances (point cap 0) (image_of_point tasks level cap j) = images_stay j in

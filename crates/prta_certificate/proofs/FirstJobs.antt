@@ -38,6 +38,9 @@ module _ (sheet : Sheet) (task : ℕ) (accepted : IsAccepted sheet) (listed : ta
   pub early_offset : (task_at sheet.tasks task).offset < (task_at sheet.tasks task).period
   early_offset = ranges.offset
 
+  pub short_deadline : (n : ℕ) → n ≡ sheet.settings.cap → (task_at sheet.tasks task).deadline < n
+  short_deadline n size = omega (arith, size, ranges.deadline_high)
+
   pub hyperperiod_in : hyperperiod sheet.tasks ≤ horizon sheet
   hyperperiod_in = at_least_once sheet.settings.hyperperiods (hyperperiod sheet.tasks) accepted.settings.hyperperiods_low
     where

@@ -6,6 +6,8 @@ pub mod Completeness
 pub mod Bounding
 pub mod Search
 pub mod Verdicts
+pub mod FoundLevels
 pub mod SheetLevels
 pub mod FirstJobs
 pub mod SteadyPass
+pub mod Stepping

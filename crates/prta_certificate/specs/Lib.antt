@@ -4,3 +4,4 @@ pub mod Search
 pub mod Verdict
 pub mod Laws
 pub mod Worked
+pub mod Levels

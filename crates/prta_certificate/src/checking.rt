@@ -1,8 +1,8 @@
 //! Whether a list is a certificate.
 
-ghost use Rattle.std.specs.Prelude.{◌≡◌, ◌↔◌, ◌<◌, None, length};
+ghost use Rattle.std.specs.Prelude.{◌≡◌, ◌↔◌, ◌<◌, None, length, vec_len};
 ghost use Rattle.prta_mass.specs.Chances.{IsWhole};
-ghost use Rattle.prta_backlog.specs.Bench.{HaveOneCap};
+ghost use Rattle.prta_response.specs.Fitting.{FitsCap};
 ghost use Rattle.prta_backlog.specs.Level.{sheet_level};
 ghost use Rattle.prta_certificate.specs.Certificate.{Certifies, broken_at};
 
@@ -20,13 +20,15 @@ pub fn check<C: Curve, K: Kernel>(
     task: usize,
 ) -> Option<Break>
     requires task { task < length sheet.now.tasks }
-    requires caps { HaveOneCap (C.cells bench.old.main) (C.cells bench.old.spare) (C.cells bench.old.kept) }
+    requires fits { FitsCap sheet.now.settings.cap (C.cells bench.old.main) (C.cells bench.old.spare) (C.cells bench.old.kept)
+        (vec_len bench.old.cells) (vec_len bench.old.tail) (vec_len bench.old.room) }
     requires whole { IsWhole (C.cells bench.old.main) }
     ensures first { result ≡ broken_at sheet.now.tasks (sheet_level task) (C.cells bench.old.main) }
     ensures none { (result ≡ None) ↔ Certifies sheet.now.tasks (sheet_level task) (C.cells bench.old.main) }
     ensures main { C.cells bench.new.main ≡ C.cells bench.old.main }
     ensures spare { C.cells bench.new.spare ≡ C.cells bench.old.spare }
-    ensures caps { HaveOneCap (C.cells bench.new.main) (C.cells bench.new.spare) (C.cells bench.new.kept) }
+    ensures fits { FitsCap sheet.now.settings.cap (C.cells bench.new.main) (C.cells bench.new.spare) (C.cells bench.new.kept)
+        (vec_len bench.new.cells) (vec_len bench.new.tail) (vec_len bench.new.room) }
 {
     let _tasks = sheet.tasks();
     bench.keep();

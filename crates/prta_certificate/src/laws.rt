@@ -1,9 +1,11 @@
 //! Laws of certificates, without code: a body only calls the laws that it rests on.
 
 ghost use Rattle.prta_certificate.specs.Laws.{TestCertifies, CertifiedListsBound, SteadyNumbersHold, CandidatesCertify, NoneCertifies};
+ghost use Rattle.prta_certificate.specs.Levels.{LevelsAreFound};
 ghost use Rattle.prta_certificate.specs.Search.{SearchDecides};
 ghost use Rattle.prta_certificate.specs.Verdict.{VerdictsSay};
 
+use prta_certfile::steps_are_lists;
 use prta_response::{images_bound_backlogs, law_of_starts, points_bound_backlogs};
 
 /// The test of a list by its last cell and its first break says whether it certifies the level.
@@ -49,3 +51,12 @@ pub fn search_decides()
 pub fn verdicts_say()
     ensures { VerdictsSay }
 {}
+
+/// What a certificate that is found for an accepted sheet states of each level is so: a list that certifies it wherever there is
+/// one, or why there is none.
+pub fn levels_are_found()
+    ensures { LevelsAreFound }
+{
+    verdicts_say();
+    steps_are_lists();
+}

@@ -1,7 +1,8 @@
 //! The search for a certificate.
 
-ghost use Rattle.std.specs.Prelude.{◌≡◌, ◌<◌, true, length, IfSome};
+ghost use Rattle.std.specs.Prelude.{◌≡◌, ◌<◌, true, length, vec_len, IfSome};
 ghost use Rattle.prta_mass.specs.Chances.{point};
+ghost use Rattle.prta_response.specs.Fitting.{FitsCap};
 ghost use Rattle.prta_backlog.specs.Bench.{HaveOneCap};
 ghost use Rattle.prta_backlog.specs.Greatest.{worst_backlog as worst_backlog_of};
 ghost use Rattle.prta_dist.specs.Curve.{lower as lower_of};
@@ -9,9 +10,10 @@ ghost use Rattle.prta_backlog.specs.Level.{sheet_level};
 ghost use Rattle.prta_certificate.specs.Certificate.{next_image, certifies};
 ghost use Rattle.prta_certificate.specs.Candidates.{image_of_point, lowered, slack, verdict_of, list_of};
 ghost use Rattle.prta_certificate.specs.Search.{ImagesTried, LoweredTried};
+ghost use Rattle.prta_certificate.specs.Verdict.{Says};
 
 use crate::checking::check;
-use crate::laws::search_decides;
+use crate::laws::{search_decides, verdicts_say};
 use crate::verdict::Verdict;
 use prta_backlog::{Bench, greatest_work, image, peak, worst_backlog};
 use prta_dist::{Curve, Kernel};
@@ -23,13 +25,16 @@ use prta_sheet::Sheet;
 /// main curve. The spare and the kept curve hold anything afterwards.
 pub fn find<C: Curve, K: Kernel>(bench: &mut Bench<C, K>, sheet: &Sheet, task: usize) -> Verdict
     requires task { task < length sheet.now.tasks }
-    requires caps { HaveOneCap (C.cells bench.old.main) (C.cells bench.old.spare) (C.cells bench.old.kept) }
-    requires cap { length (C.cells bench.old.main) ≡ sheet.now.settings.cap }
+    requires fits { FitsCap sheet.now.settings.cap (C.cells bench.old.main) (C.cells bench.old.spare) (C.cells bench.old.kept)
+        (vec_len bench.old.cells) (vec_len bench.old.tail) (vec_len bench.old.room) }
     ensures verdict { result ≡ verdict_of sheet.now.tasks (sheet_level task) sheet.now.settings.cap sheet.now.settings.turns }
+    ensures says { Says sheet.now.tasks (sheet_level task) sheet.now.settings.cap sheet.now.settings.turns result }
     ensures list { IfSome (list_of sheet.now.tasks (sheet_level task) sheet.now.settings.cap sheet.now.settings.turns result) (λ cells. C.cells bench.new.main ≡ cells) }
-    ensures caps { HaveOneCap (C.cells bench.new.main) (C.cells bench.new.spare) (C.cells bench.new.kept) }
+    ensures fits { FitsCap sheet.now.settings.cap (C.cells bench.new.main) (C.cells bench.new.spare) (C.cells bench.new.kept)
+        (vec_len bench.new.cells) (vec_len bench.new.tail) (vec_len bench.new.room) }
 {
     search_decides();
+    verdicts_say();
     let _tasks = sheet.tasks();
     let higher = TaskSet::below(task);
     let work = greatest_work(sheet, higher, task);
@@ -55,11 +60,11 @@ fn first_image<C: Curve, K: Kernel>(
     task: usize,
 ) -> Option<u32>
     requires task { task < length sheet.now.tasks }
-    requires caps { HaveOneCap (C.cells bench.old.main) (C.cells bench.old.spare) (C.cells bench.old.kept) }
-    requires cap { length (C.cells bench.old.main) ≡ sheet.now.settings.cap }
+    requires fits { FitsCap sheet.now.settings.cap (C.cells bench.old.main) (C.cells bench.old.spare) (C.cells bench.old.kept)
+        (vec_len bench.old.cells) (vec_len bench.old.tail) (vec_len bench.old.room) }
     ensures tried { ImagesTried sheet.now.tasks (sheet_level task) sheet.now.settings.cap sheet.now.settings.turns (C.cells bench.new.main) result }
-    ensures caps { HaveOneCap (C.cells bench.new.main) (C.cells bench.new.spare) (C.cells bench.new.kept) }
-    ensures cap { length (C.cells bench.new.main) ≡ sheet.now.settings.cap }
+    ensures fits { FitsCap sheet.now.settings.cap (C.cells bench.new.main) (C.cells bench.new.spare) (C.cells bench.new.kept)
+        (vec_len bench.new.cells) (vec_len bench.new.tail) (vec_len bench.new.room) }
 {
     let turns = sheet.settings().turns;
     start_at_point(bench);
@@ -78,10 +83,9 @@ fn first_image<C: Curve, K: Kernel>(
 
 // Makes the main curve the point at 0.
 fn start_at_point<C: Curve, K: Kernel>(bench: &mut Bench<C, K>)
-    requires caps { HaveOneCap (C.cells bench.old.main) (C.cells bench.old.spare) (C.cells bench.old.kept) }
     ensures main { C.cells bench.new.main ≡ point (length (C.cells bench.old.main)) 0 }
     ensures cap { length (C.cells bench.new.main) ≡ length (C.cells bench.old.main) }
-    ensures caps { HaveOneCap (C.cells bench.new.main) (C.cells bench.new.spare) (C.cells bench.new.kept) }
+    ensures others { bench.new ≡ record bench.old { main = bench.new.main } }
 {
     let _cap = bench.main.cap();
     bench.main.point(0);
@@ -90,10 +94,9 @@ fn start_at_point<C: Curve, K: Kernel>(bench: &mut Bench<C, K>)
 // Makes the main curve its image on the level.
 fn go_on<C: Curve, K: Kernel>(bench: &mut Bench<C, K>, sheet: &Sheet, task: usize)
     requires task { task < length sheet.now.tasks }
-    requires caps { HaveOneCap (C.cells bench.old.main) (C.cells bench.old.spare) (C.cells bench.old.kept) }
     ensures main { C.cells bench.new.main ≡ next_image sheet.now.tasks (sheet_level task) (C.cells bench.old.main) }
     ensures cap { length (C.cells bench.new.main) ≡ length (C.cells bench.old.main) }
-    ensures caps { HaveOneCap (C.cells bench.new.main) (C.cells bench.new.spare) (C.cells bench.new.kept) }
+    ensures others { bench.new ≡ record bench.old { main = bench.new.main } }
 {
     let _tasks = sheet.tasks();
     image(bench, sheet, TaskSet::below(task), task);
@@ -103,12 +106,14 @@ fn go_on<C: Curve, K: Kernel>(bench: &mut Bench<C, K>, sheet: &Sheet, task: usiz
 // lowered it is left. The last of them needs no test.
 fn first_lowered<C: Curve, K: Kernel>(bench: &mut Bench<C, K>, sheet: &Sheet, task: usize) -> u64
     requires task { task < length sheet.now.tasks }
-    requires caps { HaveOneCap (C.cells bench.old.main) (C.cells bench.old.spare) (C.cells bench.old.kept) }
-    requires fits { worst_backlog_of sheet.now.tasks (sheet_level task) < length (C.cells bench.old.main) }
+    requires fits { FitsCap sheet.now.settings.cap (C.cells bench.old.main) (C.cells bench.old.spare) (C.cells bench.old.kept)
+        (vec_len bench.old.cells) (vec_len bench.old.tail) (vec_len bench.old.room) }
+    requires below { worst_backlog_of sheet.now.tasks (sheet_level task) < length (C.cells bench.old.main) }
     requires main { C.cells bench.old.main ≡ image_of_point sheet.now.tasks (sheet_level task) sheet.now.settings.cap sheet.now.settings.turns }
     requires last { certifies sheet.now.tasks (sheet_level task) (lowered sheet.now.tasks (sheet_level task) sheet.now.settings.cap sheet.now.settings.turns (slack 15)) ≡ true }
     ensures tried { LoweredTried sheet.now.tasks (sheet_level task) sheet.now.settings.cap sheet.now.settings.turns (C.cells bench.new.main) result }
-    ensures caps { HaveOneCap (C.cells bench.new.main) (C.cells bench.new.spare) (C.cells bench.new.kept) }
+    ensures fits { FitsCap sheet.now.settings.cap (C.cells bench.new.main) (C.cells bench.new.spare) (C.cells bench.new.kept)
+        (vec_len bench.new.cells) (vec_len bench.new.tail) (vec_len bench.new.room) }
 {
     let worst = worst_of(sheet, task);
     bench.set_aside();
@@ -145,8 +150,8 @@ fn lower_spare<C: Curve, K: Kernel>(bench: &mut Bench<C, K>, slack: u64, top: us
     requires caps { HaveOneCap (C.cells bench.old.main) (C.cells bench.old.spare) (C.cells bench.old.kept) }
     requires top { top < length (C.cells bench.old.spare) }
     ensures main { C.cells bench.new.main ≡ lower_of slack top (C.cells bench.old.spare) }
-    ensures spare { C.cells bench.new.spare ≡ C.cells bench.old.spare }
-    ensures caps { HaveOneCap (C.cells bench.new.main) (C.cells bench.new.spare) (C.cells bench.new.kept) }
+    ensures cap { length (C.cells bench.new.main) ≡ length (C.cells bench.old.main) }
+    ensures others { bench.new ≡ record bench.old { main = bench.new.main } }
 {
     bench.bring_back();
     bench.main.lower(slack, top);
@@ -155,11 +160,13 @@ fn lower_spare<C: Curve, K: Kernel>(bench: &mut Bench<C, K>, slack: u64, top: us
 // Whether the main curve certifies the level.
 fn is_certified<C: Curve, K: Kernel>(bench: &mut Bench<C, K>, sheet: &Sheet, task: usize) -> bool
     requires task { task < length sheet.now.tasks }
-    requires caps { HaveOneCap (C.cells bench.old.main) (C.cells bench.old.spare) (C.cells bench.old.kept) }
+    requires fits { FitsCap sheet.now.settings.cap (C.cells bench.old.main) (C.cells bench.old.spare) (C.cells bench.old.kept)
+        (vec_len bench.old.cells) (vec_len bench.old.tail) (vec_len bench.old.room) }
     ensures test { result ≡ certifies sheet.now.tasks (sheet_level task) (C.cells bench.old.main) }
     ensures main { C.cells bench.new.main ≡ C.cells bench.old.main }
     ensures spare { C.cells bench.new.spare ≡ C.cells bench.old.spare }
-    ensures caps { HaveOneCap (C.cells bench.new.main) (C.cells bench.new.spare) (C.cells bench.new.kept) }
+    ensures fits { FitsCap sheet.now.settings.cap (C.cells bench.new.main) (C.cells bench.new.spare) (C.cells bench.new.kept)
+        (vec_len bench.new.cells) (vec_len bench.new.tail) (vec_len bench.new.room) }
 {
     // past the last cell
     let end = bench.main.cap();

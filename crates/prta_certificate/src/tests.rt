@@ -1,12 +1,14 @@
 //! Certificates of worked sheets, on curves that keep every cell.
 
-ghost use Rattle.std.specs.Prelude.{◌≡◌, vec_len, IfOk};
+ghost use Rattle.std.specs.Prelude.{◌≡◌, length, vec_len, IfOk};
+ghost use Rattle.prta_certfile.specs.Laws.{AreLevels};
 ghost use Rattle.prta_response.specs.Fitting.{FitsCap};
 
 use super::*;
 use prta_backlog::Bench;
+use prta_certfile::{cert_text, read_cert, steps_are_lists};
 use prta_convplain::Plain;
-use prta_dist::{Curve, Dense};
+use prta_dist::{Break, Curve, Dense};
 use prta_mass::{NoMemory, UNIT};
 use prta_sheet::{Sheet, read_sheet};
 use std::alloc::Global;
@@ -16,14 +18,31 @@ const QUARTER: u64 = 288_230_376_151_711_744;
 
 const THREE_QUARTERS: u64 = 864_691_128_455_135_232;
 
+// From 2 on each 4 ticks a job of 1 tick, or in one of four cases of 4.
+const LATE: &[u8] =
+    b"format = 1\n[[task]]\nname = \"A\"\noffset = 2\nperiod = 4\ndeadline = 3\ntimes = [[1, 3], [4, 1]]\n";
+
+// The certificate that is found for the late task, and one whose list is above its image at the first place.
+const FOUND: &[u8] =
+    b"prta certificate 1\nlevel A 0:864691128455135232 2:1152921504606846976\nend\n";
+
+const ABOVE: &[u8] =
+    b"prta certificate 1\nlevel A 0:864691128455135233 2:1152921504606846976\nend\n";
+
+const FIRST_BREAK: Break = Break {
+    place: 0,
+    had: 864_691_128_455_135_233,
+    got: THREE_QUARTERS,
+};
+
 // A sheet, and its task; the verdict on its level; the first cells of the list that is found; and the steady number of the
-// task's first job for the point at 0.
+// task's first job, for the point at 0 and for the list that is found.
 type Row = (&'static [u8], usize, Verdict, &'static [u64], u64);
 
 static ROWS: [Row; 6] = [
-    // From 2 on each 4 ticks a job of 1 tick, or in one of four cases of 4: what is left repeats.
+    // What is left repeats.
     (
-        b"format = 1\n[[task]]\nname = \"A\"\noffset = 2\nperiod = 4\ndeadline = 3\ntimes = [[1, 3], [4, 1]]\n",
+        LATE,
         0,
         Verdict::Turn(1),
         &[THREE_QUARTERS, THREE_QUARTERS, UNIT, UNIT],
@@ -85,6 +104,10 @@ fn levels_have_their_certificates(rt: HostRuntime) -> Result<(), Fail> {
             is_found(&mut bench, &sheet, *task, *verdict, cells),
             "level {i}"
         );
+        assert!(rt;
+            cells.is_empty() || is_kept(&mut bench, &sheet, *task, *first),
+            "list {i}"
+        );
     }
     Ok(())
 }
@@ -98,6 +121,7 @@ fn is_found(
     cells: &[u64],
 ) -> bool
     requires { FitsCap sheet.now.settings.cap bench.old.main bench.old.spare bench.old.kept (vec_len bench.old.cells) (vec_len bench.old.tail) (vec_len bench.old.room) }
+    ensures { FitsCap sheet.now.settings.cap bench.new.main bench.new.spare bench.new.kept (vec_len bench.new.cells) (vec_len bench.new.tail) (vec_len bench.new.room) }
 {
     if task >= sheet.tasks().len() {
         return false;
@@ -108,6 +132,17 @@ fn is_found(
         same = same && bench.main.at(k) == cells[k];
     }
     same
+}
+
+// The list on the main curve certifies the level, and has this first steady number.
+fn is_kept(bench: &mut Bench<Dense<Plain>, Plain>, sheet: &Sheet, task: usize, first: u64) -> bool
+    requires { FitsCap sheet.now.settings.cap bench.old.main bench.old.spare bench.old.kept (vec_len bench.old.cells) (vec_len bench.old.tail) (vec_len bench.old.room) }
+{
+    let end = bench.main.cap();
+    task < sheet.tasks().len()
+        && bench.main.at(end) == UNIT
+        && check(bench, sheet, task).is_none()
+        && is_steady(bench, sheet, task, first)
 }
 
 // The first steady number for the list on the main curve is this one; there are at most four.
@@ -154,4 +189,75 @@ fn bench_of(alloc: Global, sheet: &Sheet) -> Result<Bench<Dense<Plain>, Plain>, 
     let kept = Dense::new(alloc, Plain, cap)?;
     let bench = Bench::new(alloc, main, spare, kept, Plain)?;
     Ok(bench)
+}
+
+#[test]
+fn certificates_keep_their_lists(rt: HostRuntime) -> Result<(), Fail> {
+    let sheet = read_sheet(rt.alloc(), LATE)?;
+    let mut bench = bench_of(rt.alloc(), &sheet)?;
+    assert!(rt; sheet.tasks().len() == 1, "one task");
+    let text = found_text(rt.alloc(), &mut bench, &sheet)?;
+    assert!(rt; text.as_slice() == FOUND, "what is found");
+    let broken = stated_break(rt.alloc(), &mut bench, &sheet, ABOVE)?;
+    assert!(rt; broken == Some(FIRST_BREAK), "what isn't a certificate");
+    let broken = stated_break(rt.alloc(), &mut bench, &sheet, FOUND)?;
+    assert!(rt; broken.is_none(), "what is read");
+    assert!(rt;
+        is_steady(&mut bench, &sheet, 0, QUARTER),
+        "its steady number"
+    );
+    Ok(())
+}
+
+// The text of the certificate with the list that is found for the only task.
+fn found_text(
+    alloc: Global,
+    bench: &mut Bench<Dense<Plain>, Plain>,
+    sheet: &Sheet,
+) -> Result<Vec<u8>, NoMemory>
+    requires fits { FitsCap sheet.now.settings.cap bench.old.main bench.old.spare bench.old.kept (vec_len bench.old.cells) (vec_len bench.old.tail) (vec_len bench.old.room) }
+    requires one { length sheet.now.tasks ≡ 1 }
+    ensures { FitsCap sheet.now.settings.cap bench.new.main bench.new.spare bench.new.kept (vec_len bench.new.cells) (vec_len bench.new.tail) (vec_len bench.new.room) }
+{
+    find(bench, sheet, 0);
+    let steps = take_steps(alloc, bench)?;
+    let mut found = Certificate::new(alloc);
+    found.push(CertLevel::Steps(steps))?;
+    cert_text(alloc, sheet, &found)
+}
+
+// Reads a certificate, loads the list that it states of the only task, and checks it. A level without a list has no break.
+fn stated_break(
+    alloc: Global,
+    bench: &mut Bench<Dense<Plain>, Plain>,
+    sheet: &Sheet,
+    text: &[u8],
+) -> Result<Option<Break>, CertFault>
+    requires fits { FitsCap sheet.now.settings.cap bench.old.main bench.old.spare bench.old.kept (vec_len bench.old.cells) (vec_len bench.old.tail) (vec_len bench.old.room) }
+    requires one { length sheet.now.tasks ≡ 1 }
+    ensures { FitsCap sheet.now.settings.cap bench.new.main bench.new.spare bench.new.kept (vec_len bench.new.cells) (vec_len bench.new.tail) (vec_len bench.new.room) }
+{
+    let stated = read_cert(alloc, sheet, text)?;
+    Ok(first_break(bench, sheet, &stated))
+}
+
+// Loads the list that a certificate states of the only task, and checks it. A level without a list has no break.
+fn first_break(
+    bench: &mut Bench<Dense<Plain>, Plain>,
+    sheet: &Sheet,
+    stated: &Certificate,
+) -> Option<Break>
+    requires fits { FitsCap sheet.now.settings.cap bench.old.main bench.old.spare bench.old.kept (vec_len bench.old.cells) (vec_len bench.old.tail) (vec_len bench.old.room) }
+    requires one { length sheet.now.tasks ≡ 1 }
+    requires levels { AreLevels sheet.now.tasks sheet.now.settings.cap stated.now }
+    ensures { FitsCap sheet.now.settings.cap bench.new.main bench.new.spare bench.new.kept (vec_len bench.new.cells) (vec_len bench.new.tail) (vec_len bench.new.room) }
+{
+    steps_are_lists();
+    match &stated.levels()[0] {
+        CertLevel::Steps(steps) => {
+            load_steps(bench, steps);
+            check(bench, sheet, 0)
+        }
+        _ => None,
+    }
 }

@@ -1,4 +1,4 @@
-use Rattle.std.proofs.Common.{◌≡◌, ℕ, suc, ◌+◌, arith, List, length, ap, sym, ◌∙◌}
+use Rattle.std.proofs.Common.{◌≡◌, ℕ, suc, ◌+◌, arith, rules, List, ap, sym, ◌∙◌}
 use Rattle.prta_sheet.specs.Sheet.{Task}
 use Rattle.prta_backlog.specs.Level.{Level, sheet_level}
 use Rattle.prta_certificate.specs.Certificate.{next_image, certifies}
@@ -13,10 +13,9 @@ pub loop-turn-preserved : goal.loop-turn-preserved
 loop-turn-preserved g c =
     let tasks : List Task = c.args.sheet.now.tasks in
     let level : Level = sheet_level c.args.task in
-    let inv = c.loop-turn.invariant in (
-      c.go_on.ensures.caps,
-      c.go_on.ensures.cap ∙ ap length c.is_certified.ensures.main ∙ inv.1,
-      c.go_on.ensures.main ∙ ap (next_image tasks level) (c.is_certified.ensures.main ∙ inv.2) ∙ one_further tasks level c.args.sheet.now.settings.cap c.loop-turn.turn,
-      one_more_fails (certifies tasks level) (image_of_point tasks level c.args.sheet.now.settings.cap) c.loop-turn.turn inv.3
-          (ap (certifies tasks level) (sym inv.2) ∙ sym c.is_certified.ensures.test ∙ c.if-is_certified.false),
-    )
+    record {
+      fits = search rules;
+      main = c.go_on.ensures.main ∙ ap (next_image tasks level) (c.is_certified.ensures.main ∙ c.loop-turn.invariant.main) ∙ one_further tasks level c.args.sheet.now.settings.cap c.loop-turn.turn;
+      fail = one_more_fails (certifies tasks level) (image_of_point tasks level c.args.sheet.now.settings.cap) c.loop-turn.turn c.loop-turn.invariant.fail
+          (ap (certifies tasks level) (sym c.loop-turn.invariant.main) ∙ sym c.is_certified.ensures.test ∙ c.if-is_certified.false);
+    }

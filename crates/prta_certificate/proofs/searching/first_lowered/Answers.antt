@@ -1,4 +1,4 @@
-use Rattle.std.proofs.Common.{◌≡◌, ℕ, List, ap, ap₂, sym, ◌∙◌}
+use Rattle.std.proofs.Common.{◌≡◌, ℕ, List, refl, ap, ap₂, sym, ◌∙◌}
 use Rattle.prta_sheet.specs.Sheet.{Task}
 use Rattle.prta_dist.specs.Curve.{lower}
 use Rattle.prta_backlog.specs.Level.{Level, sheet_level}
@@ -17,9 +17,11 @@ loop-n-preserved g c =
     let level : Level = sheet_level c.args.task in
     let list : ℕ → List ℕ = λ i. lowered tasks level c.args.sheet.now.settings.cap c.args.sheet.now.settings.turns (slack i) in
     let main_is : g.C.Curve.cells c.lower_spare.new.bench.main ≡ list c.loop-n.n =
-    lowered_same _ _ _ _ _ _ _ c.lower_spare.ensures.main c.slack_of-slack.ensures c.worst_of-worst.ensures (c.loop-n.invariant.1 ∙ c.requires.main) in (
-      c.is_certified.ensures.caps,
-      c.is_certified.ensures.spare ∙ c.lower_spare.ensures.spare ∙ c.loop-n.invariant.1,
-      one_more_fails (certifies tasks level) list c.loop-n.n c.loop-n.invariant.2
-          (ap (certifies tasks level) (sym main_is) ∙ sym c.is_certified.ensures.test ∙ c.if-is_certified.false),
-    )
+    lowered_same _ _ _ _ _ _ _ c.lower_spare.ensures.main c.slack_of-slack.ensures c.worst_of-worst.ensures (c.loop-n.invariant.spare ∙ c.requires.main) in
+    let spare_stays : g.C.Curve.cells c.lower_spare.new.bench.spare ≡ g.C.Curve.cells c.loop-n.bench.spare = rw c.lower_spare.ensures.others refl in
+    record {
+      fits = c.is_certified.ensures.fits;
+      spare = c.is_certified.ensures.spare ∙ spare_stays ∙ c.loop-n.invariant.spare;
+      fail = one_more_fails (certifies tasks level) list c.loop-n.n c.loop-n.invariant.fail
+          (ap (certifies tasks level) (sym main_is) ∙ sym c.is_certified.ensures.test ∙ c.if-is_certified.false);
+    }

@@ -5,13 +5,13 @@ use Rattle.std.proofs.Math.ListN.{set, length-set}
 use Rattle.std.proofs.lemmas.List.Edits.{fill_by_more}
 use Rattle.std.proofs.lemmas.List.FromFn.{fill_by_all}
 use Rattle.prta_mass.specs.Unit.{unit}
-use Rattle.prta_sheet.specs.Sheet.{task_at, hyperperiod}
+use Rattle.prta_sheet.specs.Sheet.{Sheet, sheet_order, task_at, hyperperiod}
 use Rattle.prta_sheet.specs.Job.{nth_job, is_release}
-use Rattle.prta_backlog.specs.Level.{Level}
+use Rattle.prta_backlog.specs.Level.{Level, sheet_level}
 use Rattle.prta_backlog.specs.Pass.{PassState, level_of, after_last}
 use Rattle.prta_certificate.specs.Certificate.{steady_number}
-use Rattle.prta_certificate.proofs.SheetLevels.{level_below, level_on_sheet}
-use Rattle.prta_certificate.proofs.FirstJobs.{early_offset, is_analysed, delays_few}
+use Rattle.prta_certificate.proofs.SheetLevels.{level_below, level_on_sheet, is_level, own_order_fits}
+use Rattle.prta_certificate.proofs.FirstJobs.{early_offset, is_analysed, delays_few, short_deadline}
 use Rattle.prta_certificate.proofs.SteadyPass.{Awaiting, own_flag, own_release, nearer, number_is, awaits_same, awaits_more}
 use Rattle.prta_certificate.proofs.steadiness.steady.Goals as goal
 
@@ -81,3 +81,11 @@ returns-clause-numbers g c =
     (λ k low. c.loop-number.invariant.written k (omega (arith, c.loop-number.invariant.within, c.loop-number-test.false, c.loop-number.invariant.size)))
     ∙ ap (λ (level : Level). map (λ k. steady_number c.args.sheet.now.tasks level (g.C.Curve.cells c.args.bench.now.main) (nth_job c.args.sheet.now.tasks c.args.task k)) (range_with_len 0 (length c.args.found.now)))
     (level_below c.below-higher.result c.args.task c.below-higher.ensures.members)
+
+pub returns-clause-hold : goal.returns-clause-hold
+returns-clause-hold g c certified k m =
+    let sheet : Sheet = c.args.sheet.now in
+    let task : ℕ = c.args.task in
+    let deadline : (task_at sheet.tasks task).deadline < length (g.C.Curve.cells c.args.bench.now.main) = short_deadline sheet task c.tasks-tasks.ensures.accepted c.requires.task _ c.requires.fits.main_is in
+    c.steady_numbers_hold.ensures sheet.tasks (sheet_level task) (g.C.Curve.cells c.args.bench.now.main) (sheet_order sheet.tasks) k m (is_level sheet task c.tasks-tasks.ensures.accepted c.requires.task)
+    deadline c.cap-cap.ensures.chances certified (own_order_fits sheet.tasks task c.requires.task)

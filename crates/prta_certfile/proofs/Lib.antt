@@ -1,0 +1,10 @@
+pub mod StepLists
+pub mod Cuts
+pub mod Faults
+pub mod Numbers
+pub mod Lines
+pub mod Lengths
+pub mod RoundTrip
+pub mod Printed
+pub mod Prefixes
+pub mod Answered
