@@ -1,11 +1,1 @@
-pub mod Taking
 pub mod Refusals
-pub mod RowsInTurn
-pub mod Runs
-pub mod Standing
-pub mod Lines
-pub mod Meanings
-pub mod Finding
-pub mod Checks
-pub mod OwnEntries
-pub mod Fitting

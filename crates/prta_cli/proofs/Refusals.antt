@@ -1,5 +1,5 @@
 -- The answers and endings of commands.
-use Rattle.std.proofs.Common.{◌≡◌, ◌≢◌, ℕ, ◌<◌, Bool, true, false, cond, nat_lt, Option, Some, None, is_some, IfSome, IsSomeAnd, List, [], ◌∷◌, ◌++◌, length, refl, sym, ap, subst, inl, inr, arith}
+use Rattle.std.proofs.Common.{◌≡◌, ◌≢◌, ℕ, ◌<◌, Bool, true, false, if◌then◌else◌, nat_lt, Option, Some, None, is_some, is_none, IfSome, IsSomeAnd, List, [], ◌∷◌, ◌++◌, length, refl, sym, ap, subst, inl, inr, arith}
 use Rattle.std.specs.Option.{option_map_or}
 use Rattle.std.proofs.lemmas.Bool.Decides.{nat_tests}
 use Rattle.prta_outside.specs.Shelf.{count_of, count_of_failed}
@@ -9,27 +9,53 @@ use Rattle.prta_sheet.specs.Sheet.{Sheet}
 use Rattle.prta_sheet.specs.Stated.{sheet_stated}
 use Rattle.prta_report.specs.Trace.{simulate_text}
 use Rattle.prta_report.specs.Analysis.{check_text, failing_job}
+use Rattle.prta_report.specs.Certificates.{verify_text, broken_task}
+use Rattle.prta_writer.specs.Meaning.{NumbersHold}
+use Rattle.prta_cli.specs.declared.status.Status.{Status}
 use Rattle.prta_cli.specs.declared.status.Status.TheVariants as status
 use Rattle.prta_cli.specs.declared.ending.Ending.{Ending}
 use Rattle.prta_cli.specs.declared.ending.Ending.TheVariants.{Done, No, Usage, SheetRefused, InputRefused, ReadFault, WriteFault, NoMemory}
+use Rattle.prta_certfile.specs.declared.limits.TheConstants.{CERT_LIMIT}
+use Rattle.prta_certfile.specs.declared.level.CertLevel.{CertLevel}
+use Rattle.prta_certfile.specs.declared.fault.CertFault.{CertFault}
+use Rattle.prta_certfile.specs.declared.fault.CertFault.TheVariants as certificate
+use Rattle.prta_certfile.specs.Reading.{fault_of, levels_of}
+use Rattle.prta_cli.specs.declared.input.InputFault.TheVariants.{Times, Certificate}
 use Rattle.prta_cli.specs.declared.times.TheConstants.{TIMES_LIMIT}
 use Rattle.prta_cli.specs.declared.times.TimesFault.{TimesFault}
 use Rattle.prta_cli.specs.declared.times.TimesFault.TheVariants as times
-use Rattle.prta_cli.specs.Words.{Command, command, analyse, ledger, check, simulate, sheet_name, second_name}
-use Rattle.prta_cli.specs.Answer.{Answer, Files, answer, answer_to, answer_to_file, answer_to_sheet, checking, simulation, told, told_no, plain, refused, input_refused, IsSheetOf, IsAcceptedFile}
+use Rattle.prta_cli.specs.Words.{Command, command, analyse, ledger, check, certify, verify, simulate, sheet_name, second_name}
+use Rattle.prta_cli.specs.Answer.{Answer, Files, answer, answer_to, answer_to_file, answer_to_sheet, judgement, verification, simulation, told, told_no, plain, refused, input_refused, IsSheetOf, IsCertificateOf, IsAcceptedFile}
 use Rattle.prta_cli.specs.Times.{times_in, times_fault}
 use Rattle.prta_cli.specs.Ending.{status_of, IsServed, EndsBy}
-use Rattle.prta_cli.specs.Writing.{Took, TookPart}
-use Rattle.prta_cli.specs.Causes.{HasFailed, SheetFailed, ReadFailed, IsReadFault, IsOrNoMemory, IsAfterWords}
+use Rattle.prta_writer.specs.Writing.{Took, TookPart}
+use Rattle.prta_cli.specs.Causes.{HoldsFor, HasFailed, SheetFailed, ReadFailed, IsReadFault, IsOrNoMemory, IsAfterWords}
 
 -- a file past the limit is refused by that
 pub too_long : (answers : Sheet → Answer) (held : Option (List ℕ)) → IsSomeAnd held (λ bytes. SHEET_LIMIT < length bytes) → answer_to_file answers held ≡ refused TooLong
 too_long answers None h = absurd h
 too_long answers (Some bytes) h = let long : nat_lt SHEET_LIMIT (length bytes) ≡ true = grind (arith, nat_tests) in rw long refl
 
-pub times_too_long : (sheet : Sheet) (held : Option (List ℕ)) → IsSomeAnd held (λ bytes. TIMES_LIMIT < length bytes) → simulation sheet held ≡ input_refused times.TooLong
+pub times_too_long : (sheet : Sheet) (held : Option (List ℕ)) → IsSomeAnd held (λ bytes. TIMES_LIMIT < length bytes) → simulation sheet held ≡ input_refused (Times times.TooLong)
 times_too_long sheet None h = absurd h
 times_too_long sheet (Some bytes) h = let long : nat_lt TIMES_LIMIT (length bytes) ≡ true = grind (arith, nat_tests) in rw long refl
+
+pub certificate_too_long : (sheet : Sheet) (held : Option (List ℕ)) → IsSomeAnd held (λ bytes. CERT_LIMIT < length bytes) → verification sheet held ≡ input_refused (Certificate certificate.TooLong)
+certificate_too_long sheet None h = absurd h
+certificate_too_long sheet (Some bytes) h = let long : nat_lt CERT_LIMIT (length bytes) ≡ true = grind (arith, nat_tests) in rw long refl
+
+-- the answer to a certificate by the levels that it states, or by its first fault
+pub of_certificate : (sheet : Sheet) (held : Option (List ℕ)) (levels : List CertLevel) → IsCertificateOf sheet held levels → verification sheet held ≡ judgement sheet levels
+of_certificate sheet None levels h = absurd h
+of_certificate sheet (Some bytes) levels h = rw h.0 (ap (judgement sheet) (sym h.1))
+
+pub of_fault : (sheet : Sheet) (bytes : List ℕ) (fault : CertFault) → fault_of sheet.tasks sheet.settings.cap bytes ≡ Some fault → verification sheet (Some bytes) ≡ input_refused (Certificate fault)
+of_fault sheet bytes fault e = rw e refl
+
+-- what holds of the levels that a certificate states holds of those that are read
+pub held_levels : (sheet : Sheet) (held : Option (List ℕ)) (levels : List CertLevel) → IsCertificateOf sheet held levels → NumbersHold sheet levels → HoldsFor sheet held
+held_levels sheet None levels h hold = absurd h
+held_levels sheet (Some bytes) levels h hold = subst (NumbersHold sheet) h.1 hold
 
 -- the answer to the file of an accepted sheet is the one to that sheet
 pub of_sheet : (answers : Sheet → Answer) (held : Option (List ℕ)) (sheet : Sheet) → IsSheetOf held sheet → answer_to_file answers held ≡ answers sheet
@@ -58,34 +84,60 @@ module _ (first last : Option (List ℕ)) where
   ends_by_sheet (Some files) c sheet ending is ends =
       subst (λ a. EndsBy ending a first last) (sym (of_sheet (answer_to_sheet files c) (files (sheet_name c)) sheet is)) (ends files)
 
--- the verdict has a text either way
-pub checking_serves : (sheet : Sheet) → IsServed (checking sheet).status × ((checking sheet).out ≡ check_text sheet)
-checking_serves sheet = by_flag (is_some (failing_job sheet))
-  where
-    by_flag : (failing : Bool) → IsServed (cond failing (told_no (check_text sheet)) (told (check_text sheet))).status × ((cond failing (told_no (check_text sheet)) (told (check_text sheet))).out ≡ check_text sheet)
-    by_flag true = (tt, refl)
-    by_flag false = (tt, refl)
+-- ---- a text that says yes or no
 
--- the answer to an accepted sheet doesn't refuse it
-checking_accepts : (sheet : Sheet) → (checking sheet).status ≢ status.SheetRefused
-checking_accepts sheet = by_flag (is_some (failing_job sheet))
+abbrev pub judged : Bool → List ℕ → Answer
+judged failed text = if failed then told_no text else told text
+
+-- it has the text either way, and doesn't refuse the sheet
+pub judged_serves : (failed : Bool) (text : List ℕ) → IsServed (judged failed text).status × ((judged failed text).out ≡ text)
+judged_serves true text = (tt, refl)
+judged_serves false text = (tt, refl)
+
+judged_accepts : (failed : Bool) (text : List ℕ) → (judged failed text).status ≢ status.SheetRefused
+judged_accepts true text = λ e. cc
+judged_accepts false text = λ e. cc
+
+-- yes where nothing was found
+pub yes_is : {A : Type 0} (found : Option A) (text : List ℕ) → true ≡ is_none found → judged (is_some found) text ≡ told text
+yes_is None text e = refl
+yes_is (Some x) text e = cc
+
+pub no_is : {A : Type 0} (found : Option A) (text : List ℕ) → false ≡ is_none found → judged (is_some found) text ≡ told_no text
+no_is None text e = cc
+no_is (Some x) text e = refl
+
+pub none_found : {A : Type 0} (found : Option A) → true ≡ is_none found → found ≡ None
+none_found None e = refl
+none_found (Some x) e = cc
+
+-- ---- the answer to an accepted sheet doesn't refuse it
+
+verification_accepts : (sheet : Sheet) (held : Option (List ℕ)) → (verification sheet held).status ≢ status.SheetRefused
+verification_accepts sheet None = λ e. cc
+verification_accepts sheet (Some bytes) = by_fault (fault_of sheet.tasks sheet.settings.cap bytes)
   where
-    by_flag : (failing : Bool) → (cond failing (told_no (check_text sheet)) (told (check_text sheet))).status ≢ status.SheetRefused
-    by_flag true = λ e. cc
-    by_flag false = λ e. cc
+    levels : List CertLevel
+    levels = levels_of sheet.tasks bytes
+
+    by_fault : (fault : Option CertFault) → (option_map_or (λ fault. input_refused (Certificate fault)) fault (judgement sheet levels)).status ≢ status.SheetRefused
+    by_fault None = judged_accepts (is_some (broken_task sheet levels)) (verify_text sheet levels)
+    by_fault (Some fault) = λ e. cc
 
 simulation_accepts : (sheet : Sheet) (held : Option (List ℕ)) → (simulation sheet held).status ≢ status.SheetRefused
 simulation_accepts sheet None = λ e. cc
 simulation_accepts sheet (Some bytes) = by_fault (times_fault sheet bytes)
   where
-    by_fault : (fault : Option TimesFault) → (option_map_or input_refused fault (told (simulate_text sheet (times_in bytes)))).status ≢ status.SheetRefused
+    by_fault : (fault : Option TimesFault) → (option_map_or (λ fault. input_refused (Times fault)) fault (told (simulate_text sheet (times_in bytes)))).status ≢ status.SheetRefused
     by_fault None = λ e. cc
     by_fault (Some fault) = λ e. cc
 
 answer_accepts : (files : Files) (c : Command) (sheet : Sheet) → (answer_to_sheet files c sheet).status ≢ status.SheetRefused
 answer_accepts files (analyse name) sheet = λ e. cc
 answer_accepts files (ledger name) sheet = λ e. cc
-answer_accepts files (check name) sheet = checking_accepts sheet
+answer_accepts files (check name) sheet = judged_accepts (is_some (failing_job sheet)) (check_text sheet)
+answer_accepts files (certify name) sheet = λ e. cc
+answer_accepts files (verify name certificate) sheet = verification_accepts sheet (files certificate)
 answer_accepts files (simulate name times) sheet = simulation_accepts sheet (files times)
 
 file_accepts : (answers : Sheet → Answer) → ((sheet : Sheet) → (answers sheet).status ≢ status.SheetRefused) → (held : Option (List ℕ)) → IsAcceptedFile held →
@@ -191,3 +243,10 @@ module _ (words : List (List ℕ)) (c : Command) (given : command words ≡ Some
         IfSome held (λ files. IsOrNoMemory (status_of ending) (answer files words).status)
     as_told None ending r f unread w e = tt
     as_told (Some files) ending r f unread w e = rw given (answered (answer_to files c) ending r (λ is. unread (read_failed (Some files) (f is))) w e)
+
+-- where an ending without a text has the status of the answer, so has the one for a refused second file
+pub input_as_told : (words : List (List ℕ)) (held : Option Files) (ending : Status) →
+    IfSome held (λ files. (IsServed (answer files words).status → ⊥) → IsOrNoMemory ending (answer files words).status) →
+    IfSome held (λ files. (answer files words).status ≡ status.InputRefused → IsOrNoMemory ending status.InputRefused)
+input_as_told words None ending h = tt
+input_as_told words (Some files) ending h = λ is. subst (IsOrNoMemory ending) is (h (λ served. rw is at served))

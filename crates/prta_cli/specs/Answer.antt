@@ -5,11 +5,15 @@ use Rattle.prta_sheet.specs.Sheet.{Sheet}
 use Rattle.prta_sheet.specs.declared.fault.SheetFault.{SheetFault}
 use Rattle.prta_sheet.specs.Stated.{sheet_stated}
 use Rattle.prta_sheet.specs.Refusal.{refusal}
+use Rattle.prta_certfile.specs.declared.level.CertLevel.{CertLevel}
+use Rattle.prta_certfile.specs.Reading.{fault_of, levels_of}
 use Rattle.prta_report.specs.Analysis.{analyse_text, ledger_text, check_text, failing_job}
+use Rattle.prta_report.specs.Certificates.{certify_text, verify_text, broken_task}
 use Rattle.prta_cli.specs.declared.status.Status.{Status}
 use Rattle.prta_cli.specs.declared.status.Status.TheVariants.{Done, No, Usage, SheetRefused, InputRefused, ReadFault, WriteFault, NoMemory}
-use Rattle.prta_cli.specs.declared.times.TimesFault.{TimesFault}
-use Rattle.prta_cli.specs.Words.{Command, analyse, ledger, check, simulate, command, sheet_name}
+use Rattle.prta_cli.specs.declared.input.InputFault.{InputFault}
+use Rattle.prta_cli.specs.declared.input.InputFault.TheVariants.{Times, Certificate}
+use Rattle.prta_cli.specs.Words.{Command, analyse, ledger, check, certify, verify, simulate, command, sheet_name}
 use Rattle.prta_cli.specs.Times.{times_in, times_fault}
 use Rattle.prta_report.specs.Trace.{simulate_text}
 use Rattle.prta_cli.specs.Refused.{refused_line, input_line}
@@ -44,7 +48,7 @@ plain status = record { status = status; out = []; err = err_line status }
 abbrev pub refused : SheetFault → Answer
 refused fault = record { status = SheetRefused; out = []; err = refused_line fault }
 
-abbrev pub input_refused : TimesFault → Answer
+abbrev pub input_refused : InputFault → Answer
 input_refused fault = record { status = InputRefused; out = []; err = input_line fault }
 
 -- to `check`, by the accepted sheet: no, where there is a job whose upper number doesn't pass
@@ -54,7 +58,16 @@ checking sheet = if is_some (failing_job sheet) then told_no (check_text sheet) 
 -- to `simulate`, by the accepted sheet and by what is held under the name of the times
 abbrev pub simulation : Sheet → Option (List ℕ) → Answer
 simulation sheet None = plain ReadFault
-simulation sheet (Some bytes) = option_map_or input_refused (times_fault sheet bytes) (told (simulate_text sheet (times_in bytes)))
+simulation sheet (Some bytes) = option_map_or (λ fault. input_refused (Times fault)) (times_fault sheet bytes) (told (simulate_text sheet (times_in bytes)))
+
+-- to `verify`, by the accepted sheet and the levels that a certificate states: no, where some list is broken
+abbrev pub judgement : Sheet → List CertLevel → Answer
+judgement sheet levels = if is_some (broken_task sheet levels) then told_no (verify_text sheet levels) else told (verify_text sheet levels)
+
+-- by what is held under the name of the certificate
+abbrev pub verification : Sheet → Option (List ℕ) → Answer
+verification sheet None = plain ReadFault
+verification sheet (Some bytes) = option_map_or (λ fault. input_refused (Certificate fault)) (fault_of sheet.tasks sheet.settings.cap bytes) (judgement sheet (levels_of sheet.tasks bytes))
 
 -- the names of files, and the bytes under them
 abbrev pub Files : Type 0
@@ -64,6 +77,8 @@ abbrev pub answer_to_sheet : Files → Command → Sheet → Answer
 answer_to_sheet files (analyse name) sheet = told (analyse_text sheet)
 answer_to_sheet files (ledger name) sheet = told (ledger_text sheet)
 answer_to_sheet files (check name) sheet = checking sheet
+answer_to_sheet files (certify name) sheet = told (certify_text sheet)
+answer_to_sheet files (verify name certificate) sheet = verification sheet (files certificate)
 answer_to_sheet files (simulate name times) sheet = simulation sheet (files times)
 
 -- by the first condition that fails on a sheet, and by the sheet that is stated; bytes that no condition refuses state one, so that the
@@ -87,7 +102,11 @@ answer files words = option_map_or (answer_to files) (command words) (plain Usag
 abbrev pub IsSheetOf : Option (List ℕ) → Sheet → Type 0
 IsSheetOf held sheet = IsSomeAnd held (λ bytes. (refusal bytes ≡ None) × (sheet_stated bytes ≡ Some sheet))
 
--- no condition refuses them
+-- no condition refuses the bytes that are held as a certificate of the sheet, and they state the levels
+abbrev pub IsCertificateOf : Sheet → Option (List ℕ) → List CertLevel → Type 0
+IsCertificateOf sheet held levels = IsSomeAnd held (λ bytes. (fault_of sheet.tasks sheet.settings.cap bytes ≡ None) × (levels ≡ levels_of sheet.tasks bytes))
+
+-- no condition refuses the bytes as a sheet
 abbrev pub IsAcceptedFile : Option (List ℕ) → Type 0
 IsAcceptedFile held = IsSomeAnd held (λ bytes. refusal bytes ≡ None)
 

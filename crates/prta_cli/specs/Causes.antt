@@ -1,13 +1,15 @@
 -- What the answers of the program are tied to.
 use Rattle.std.specs.Prelude.{◌≡◌, ℕ, ◌<◌, ◌⊎◌, Option, IfSome, IsSomeAnd, List, [], ◌∷◌, ◌++◌, ⊤}
 use Rattle.prta_outside.specs.Shelf.{count_of}
+use Rattle.prta_sheet.specs.Sheet.{Sheet}
 use Rattle.prta_sheet.specs.declared.fault.SheetFault.{SheetFault}
 use Rattle.prta_cli.specs.declared.status.Status.{Status}
 use Rattle.prta_cli.specs.declared.status.Status.TheVariants.{Done, No, Usage, SheetRefused, InputRefused, ReadFault, WriteFault, NoMemory}
-use Rattle.prta_cli.specs.declared.times.TimesFault.{TimesFault}
-use Rattle.prta_cli.specs.Words.{Command, analyse, ledger, check, simulate, command, sheet_name, second_name}
+use Rattle.prta_cli.specs.declared.input.InputFault.{InputFault}
+use Rattle.prta_certfile.specs.Reading.{levels_of}
+use Rattle.prta_cli.specs.Words.{Command, analyse, ledger, check, certify, verify, simulate, command, sheet_name, second_name}
 use Rattle.prta_cli.specs.Answer.{Files, answer, err_line, sheet_under, IsAcceptedFile}
-use Rattle.prta_cli.specs.Meaning.{AreAround, AreClose, ChancesPass}
+use Rattle.prta_writer.specs.Meaning.{AreAround, AreClose, ChancesPass, AreFound, NumbersHold}
 use Rattle.prta_cli.specs.Refused.{refused_line, input_line}
 
 -- between two lists of the names of a shelf's failed reads the count of a name rose
@@ -32,12 +34,19 @@ IsReadFault held c before now =
     (now ≡ before ++ sheet_name c ∷ [])
     ⊎ (IsSomeAnd (second_name c) (λ name. now ≡ before ++ name ∷ []) × IfSome held (λ files. IsAcceptedFile (files (sheet_name c))))
 
+-- the steady numbers for each list that the held bytes state hold in every hyperperiod
+abbrev pub HoldsFor : Sheet → Option (List ℕ) → Type 0
+HoldsFor sheet held = IsSomeAnd held (λ bytes. NumbersHold sheet (levels_of sheet.tasks bytes))
+
 -- what a run that ended with Done shows of the sheet that is stated under the name: of `analyse` and `ledger` that each job's numbers are
--- around its exact chance, and no further apart than its entries add up to; of `check` that each exact chance passes
+-- around its exact chance, and no further apart than its entries add up to; of `check` that each exact chance passes; of `certify` that
+-- what is found for each level is so; and of `verify` that the steady numbers for each list of the certificate hold in every hyperperiod
 abbrev pub IsShown : Files → Command → Type 0
 IsShown files (analyse name) = IsSomeAnd (sheet_under files name) (λ sheet. AreAround sheet × AreClose sheet)
 IsShown files (ledger name) = IsSomeAnd (sheet_under files name) (λ sheet. AreAround sheet × AreClose sheet)
 IsShown files (check name) = IsSomeAnd (sheet_under files name) ChancesPass
+IsShown files (certify name) = IsSomeAnd (sheet_under files name) AreFound
+IsShown files (verify name certificate) = IsSomeAnd (sheet_under files name) (λ sheet. HoldsFor sheet (files certificate))
 IsShown files (simulate name times) = ⊤
 
 -- where a shelf tells its files, the answer to the words has the status
@@ -67,7 +76,7 @@ IsAfterWords _ = ⊤
 -- the line of a status: for a refused file that of some condition
 abbrev pub IsLine : Status → List ℕ → Type 0
 IsLine SheetRefused line = (fault : SheetFault) × (line ≡ refused_line fault)
-IsLine InputRefused line = (fault : TimesFault) × (line ≡ input_line fault)
+IsLine InputRefused line = (fault : InputFault) × (line ≡ input_line fault)
 IsLine status line = line ≡ err_line status
 
 -- a status whose line tells a condition

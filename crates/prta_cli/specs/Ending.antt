@@ -5,7 +5,7 @@ use Rattle.prta_cli.specs.declared.status.Status.TheVariants as status
 use Rattle.prta_cli.specs.declared.ending.Ending.{Ending}
 use Rattle.prta_cli.specs.declared.ending.Ending.TheVariants.{Done, No, Usage, SheetRefused, InputRefused, ReadFault, WriteFault, NoMemory}
 use Rattle.prta_cli.specs.Answer.{Answer, err_line}
-use Rattle.prta_cli.specs.Writing.{Took, TookPart}
+use Rattle.prta_writer.specs.Writing.{Took, TookPart}
 
 abbrev pub status_of : Ending → Status
 status_of Done = status.Done

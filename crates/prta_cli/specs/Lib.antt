@@ -2,9 +2,5 @@ pub mod Words
 pub mod Times
 pub mod Refused
 pub mod Answer
-pub mod Meaning
 pub mod Ending
-pub mod Writing
-pub mod Report
-pub mod Checking
 pub mod Causes

@@ -9,6 +9,11 @@ use Rattle.prta_sheet.specs.declared.fault.SheetFault.TheVariants.{TooLong, NotT
 use Rattle.prta_sheet.specs.Refusal.{number_of}
 use Rattle.prta_cli.specs.declared.times.TimesFault.{TimesFault}
 use Rattle.prta_cli.specs.declared.times.TimesFault.TheVariants as times
+use Rattle.prta_certfile.specs.declared.fault.CertFault.{CertFault}
+use Rattle.prta_certfile.specs.declared.fault.CertFault.TheVariants as certificate
+use Rattle.prta_certfile.specs.Reading.{number_of as certificate_number}
+use Rattle.prta_cli.specs.declared.input.InputFault.{InputFault}
+use Rattle.prta_cli.specs.declared.input.InputFault.TheVariants as input
 
 abbrev pub key_text : Key → List ℕ
 key_text key.Format = codes "format"
@@ -64,17 +69,36 @@ tail NoMemory = []
 unfoldable pub refused_line : SheetFault → List ℕ
 refused_line fault = codes "prta: sheet refused " ++ decimal (number_of fault) ++ tail fault ++ codes "\n"
 
-abbrev pub input_number : TimesFault → ℕ
-input_number times.TooLong = 1
-input_number (times.BadLine n) = 2
-input_number (times.WrongCount n) = 3
-input_number (times.NotInTable n) = 4
+-- of a file of chosen times
+abbrev pub times_number : TimesFault → ℕ
+times_number times.TooLong = 1
+times_number (times.BadLine n) = 2
+times_number (times.WrongCount n) = 3
+times_number (times.NotInTable n) = 4
 
-abbrev pub input_tail : TimesFault → List ℕ
-input_tail times.TooLong = []
-input_tail (times.BadLine n) = with_value n
-input_tail (times.WrongCount n) = with_value n
-input_tail (times.NotInTable n) = with_value n
+abbrev pub times_tail : TimesFault → List ℕ
+times_tail times.TooLong = []
+times_tail (times.BadLine n) = with_value n
+times_tail (times.WrongCount n) = with_value n
+times_tail (times.NotInTable n) = with_value n
 
-unfoldable pub input_line : TimesFault → List ℕ
+-- of a certificate
+abbrev pub certificate_tail : CertFault → List ℕ
+certificate_tail certificate.TooLong = []
+certificate_tail (certificate.BadLine n) = with_value n
+certificate_tail (certificate.WrongTask n) = with_value n
+certificate_tail (certificate.NotIncreasing n) = with_value n
+certificate_tail (certificate.PlaceTooLarge n) = with_value n
+certificate_tail (certificate.NotWhole n) = with_value n
+certificate_tail certificate.NoMemory = []
+
+abbrev pub input_number : InputFault → ℕ
+input_number (input.Times fault) = times_number fault
+input_number (input.Certificate fault) = certificate_number fault
+
+abbrev pub input_tail : InputFault → List ℕ
+input_tail (input.Times fault) = times_tail fault
+input_tail (input.Certificate fault) = certificate_tail fault
+
+unfoldable pub input_line : InputFault → List ℕ
 input_line fault = codes "prta: input refused " ++ decimal (input_number fault) ++ input_tail fault ++ codes "\n"

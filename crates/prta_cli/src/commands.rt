@@ -2,23 +2,21 @@
 
 ghost use Rattle.std.specs.Prelude.{◌≡◌, ◌≢◌, ◌∷◌, ◌++◌, [], IfSome};
 ghost use Rattle.prta_outside.specs.Sink.{HasRisen};
-ghost use Rattle.prta_report.specs.Analysis.{failing_job};
+ghost use Rattle.prta_certfile.specs.Laws.{AreLevels};
 ghost use Rattle.prta_cli.specs.declared.status.Status.{Status};
-ghost use Rattle.prta_cli.specs.Answer.{told, checking, simulation};
+ghost use Rattle.prta_cli.specs.Answer.{told, checking, judgement, verification, simulation};
 ghost use Rattle.prta_cli.specs.Ending.{status_of, line_of, IsServed, EndsBy};
-ghost use Rattle.prta_cli.specs.Report.{report_text};
-ghost use Rattle.prta_cli.specs.Causes.{IsAfterWords, IsLine};
-ghost use Rattle.prta_cli.specs.Meaning.{AreAround, AreClose, ChancesPass};
+ghost use Rattle.prta_writer.specs.Report.{report_text};
+ghost use Rattle.prta_cli.specs.Causes.{IsAfterWords, IsLine, HoldsFor};
+ghost use Rattle.prta_writer.specs.Meaning.{AreAround, AreClose, ChancesPass, AreFound, NumbersHold};
 
-use crate::checking::{first_failing, push_verdict};
 use crate::ending::Ending;
-use crate::meaning::what_numbers_mean;
-use crate::output::put_all;
-use crate::report::{What, write_report};
-use crate::room::Room;
 use crate::simulation::simulation;
+use crate::verification::certificate_under;
+use prta_certfile::Certificate;
 use prta_outside::{Shelf, Sink};
 use prta_sheet::Sheet;
+use prta_writer::{Room, What, put_all, write_check, write_report, write_verify};
 use std::alloc::Global;
 
 /// Writes the report of a sheet.
@@ -26,6 +24,7 @@ pub fn report<O: Sink>(alloc: Global, sheet: &Sheet, what: What, out: &mut O) ->
     ensures ends { EndsBy result (told (report_text what sheet.now)) (O.taken out.old) (O.taken out.new) }
     ensures around { status_of result ≡ Status.Done → AreAround sheet.now }
     ensures close { status_of result ≡ Status.Done → AreClose sheet.now }
+    ensures found { status_of result ≡ Status.Done → AreFound sheet.now }
     ensures write_fault { status_of result ≡ Status.WriteFault → HasRisen (O.faults out.old) (O.faults out.new) }
     ensures nothing { ¬ IsServed (status_of result) → status_of result ≢ Status.WriteFault → out.new ≡ out.old }
     ensures ending { IsAfterWords (status_of result) }
@@ -52,21 +51,65 @@ pub fn check<O: Sink>(alloc: Global, sheet: &Sheet, out: &mut O) -> Ending
     ensures no_fault { status_of result ≢ Status.ReadFault }
     ensures line { IsLine (status_of result) (line_of result) }
 {
-    what_numbers_mean(sheet);
-    let Room {
-        mut bench,
-        mut desk,
-        ..
-    } = match Room::new(alloc, sheet) {
+    let mut room = match Room::new(alloc, sheet) {
         Ok(room) => room,
         Err(_) => return Ending::NoMemory,
     };
-    let found = first_failing(&mut bench, &mut desk, sheet);
-    desk.page.clear();
-    push_verdict(&mut desk.page, sheet, found);
-    match put_all(out, desk.page.bytes()) {
-        Ok(()) if found.is_none() => Ending::Done,
-        Ok(()) => Ending::No,
+    match write_check(&mut room, sheet, out) {
+        Ok(true) => Ending::Done,
+        Ok(false) => Ending::No,
+        Err(_) => Ending::WriteFault,
+    }
+}
+
+/// Writes what the certificate that is held under a name is worth for a sheet.
+pub fn verify<S: Shelf, O: Sink>(
+    alloc: Global,
+    sheet: &Sheet,
+    certificate: &str,
+    shelf: &mut S,
+    out: &mut O,
+) -> Ending
+    ensures ends { IfSome (S.held shelf.old) (λ files. EndsBy result (verification sheet.now (files certificate.now)) (O.taken out.old) (O.taken out.new)) }
+    ensures hold { status_of result ≡ Status.Done → IfSome (S.held shelf.old) (λ files. HoldsFor sheet.now (files certificate.now)) }
+    ensures write_fault { status_of result ≡ Status.WriteFault → HasRisen (O.faults out.old) (O.faults out.new) }
+    ensures nothing { ¬ IsServed (status_of result) → status_of result ≢ Status.WriteFault → out.new ≡ out.old }
+    ensures ending { IsAfterWords (status_of result) }
+    ensures fault { status_of result ≡ Status.ReadFault → S.faults shelf.new ≡ S.faults shelf.old ++ certificate.now ∷ [] }
+    ensures no_fault { status_of result ≢ Status.ReadFault → S.faults shelf.new ≡ S.faults shelf.old }
+    ensures line { IsLine (status_of result) (line_of result) }
+    ensures kept { S.held shelf.new ≡ S.held shelf.old }
+{
+    let certificate = match certificate_under(alloc, sheet, certificate, shelf) {
+        Ok(certificate) => certificate,
+        Err(ending) => return ending,
+    };
+    verify_levels(alloc, sheet, &certificate, out)
+}
+
+// The same, for a certificate that was read.
+fn verify_levels<O: Sink>(
+    alloc: Global,
+    sheet: &Sheet,
+    certificate: &Certificate,
+    out: &mut O,
+) -> Ending
+    requires { AreLevels sheet.now.tasks sheet.now.settings.cap certificate.now }
+    ensures ends { EndsBy result (judgement sheet.now certificate.now) (O.taken out.old) (O.taken out.new) }
+    ensures hold { status_of result ≡ Status.Done → NumbersHold sheet.now certificate.now }
+    ensures write_fault { status_of result ≡ Status.WriteFault → HasRisen (O.faults out.old) (O.faults out.new) }
+    ensures nothing { ¬ IsServed (status_of result) → status_of result ≢ Status.WriteFault → out.new ≡ out.old }
+    ensures ending { IsAfterWords (status_of result) }
+    ensures no_fault { status_of result ≢ Status.ReadFault }
+    ensures line { IsLine (status_of result) (line_of result) }
+{
+    let mut room = match Room::new(alloc, sheet) {
+        Ok(room) => room,
+        Err(_) => return Ending::NoMemory,
+    };
+    match write_verify(&mut room, sheet, certificate, out) {
+        Ok(true) => Ending::Done,
+        Ok(false) => Ending::No,
         Err(_) => Ending::WriteFault,
     }
 }

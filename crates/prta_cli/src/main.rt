@@ -1,16 +1,11 @@
 //! `prta`: proved bounds on the chance that a job misses its deadline.
 #![tactic(auto)]
 
-mod checking;
 mod commands;
 mod ending;
+mod input;
 mod leave;
-mod meaning;
-mod output;
 mod refused;
-mod report;
-mod room;
-mod rows;
 mod run;
 mod sheet;
 mod simulation;
@@ -18,7 +13,7 @@ mod status;
 #[cfg(test)]
 mod tests;
 mod times;
-mod trace;
+mod verification;
 mod words;
 
 ghost use Rattle.std.specs.Prelude.{◌≡◌, ◌≢◌, ◌⊎◌, IfErr};

@@ -6,16 +6,15 @@ ghost use Rattle.prta_cli.specs.Words.{texts, command, command_of};
 ghost use Rattle.prta_cli.specs.Answer.{answer, answer_to};
 ghost use Rattle.prta_cli.specs.Ending.{status_of, line_of, IsServed, EndsBy};
 ghost use Rattle.prta_cli.specs.Causes.{SheetFailed, ReadFailed, IsReadFault, IsShown, AnswerIs, IsOrNoMemory, IsAfterWords, IsLine, IsLineFor};
-ghost use Rattle.prta_cli.specs.Writing.{Took, TookPart, TookLine};
+ghost use Rattle.prta_writer.specs.Writing.{Took, TookPart, TookLine};
 
-use crate::commands::{check, report, simulate};
+use crate::commands::{check, report, simulate, verify};
 use crate::ending::Ending;
-use crate::output::put_all;
-use crate::report::What;
 use crate::sheet::sheet_under;
 use crate::status::Status;
 use crate::words::{Command, command_from};
 use prta_outside::{Shelf, Sink};
+use prta_writer::{What, put_all};
 use std::alloc::Global;
 
 /// Does all that the program does. `words` are the words after the program's name.
@@ -114,6 +113,8 @@ fn follow<S: Shelf, O: Sink>(alloc: Global, command: Command, shelf: &mut S, out
         Command::Analyse(_) => report(alloc, &sheet, What::Analyse, out),
         Command::Ledger(_) => report(alloc, &sheet, What::Ledger, out),
         Command::Check(_) => check(alloc, &sheet, out),
+        Command::Certify(_) => report(alloc, &sheet, What::Certify, out),
+        Command::Verify(_, certificate) => verify(alloc, &sheet, certificate, shelf, out),
         Command::Simulate(_, times) => simulate(alloc, &sheet, times, shelf, out),
     }
 }

@@ -4,19 +4,21 @@ ghost use Rattle.std.specs.Prelude.{◌≡◌, ◌≢◌, ◌≤◌, ◌∷◌, 
 ghost use Rattle.prta_sheet.specs.Sheet.{sheet_order};
 ghost use Rattle.prta_ticksim.specs.Start.{machine_of};
 ghost use Rattle.prta_cli.specs.declared.status.Status.{Status};
+ghost use Rattle.prta_cli.specs.declared.input.InputFault.TheVariants.{Times};
 ghost use Rattle.prta_cli.specs.Answer.{simulation, told, input_refused};
 ghost use Rattle.prta_cli.specs.Ending.{status_of, line_of, Tells};
 ghost use Rattle.prta_cli.specs.Causes.{IsBeforeOut, IsLine};
 ghost use Rattle.prta_cli.specs.Times.{times_in, times_fault};
 
 use crate::ending::Ending;
-use crate::times::{TIMES_LIMIT, TimesFault, input_page};
-use crate::trace::trace_page;
+use crate::input::{InputFault, refuse};
+use crate::times::{TIMES_LIMIT, TimesFault};
 use prta_jobs::Order;
 use prta_outside::{Shelf, ShelfFault};
 use prta_report::Page;
 use prta_sheet::Sheet;
 use prta_ticksim::{ChoicesFault, Machine, MachineFault, read_choices};
+use prta_writer::trace_page;
 use std::alloc::Global;
 
 /// The whole text of `simulate` for a sheet and the times under a name, or how the command ends.
@@ -38,7 +40,7 @@ pub fn simulation<S: Shelf>(
     match shelf.read(alloc, name, TIMES_LIMIT) {
         Ok(bytes) => trace_of(alloc, sheet, &bytes),
         Err(ShelfFault::Failed) => Err(Ending::ReadFault),
-        Err(ShelfFault::TooLong { .. }) => Err(refuse(alloc, TimesFault::TooLong)),
+        Err(ShelfFault::TooLong { .. }) => Err(refuse_times(alloc, TimesFault::TooLong)),
         Err(ShelfFault::NoMemory) => Err(Ending::NoMemory),
     }
 }
@@ -74,7 +76,10 @@ fn machine_of(alloc: Global, sheet: &Sheet, bytes: &[u8]) -> Result<Machine, End
 {
     let choices = match read_choices(alloc, bytes) {
         Ok(choices) => choices,
-        Err(ChoicesFault::BadLine(line)) => return Err(refuse(alloc, TimesFault::BadLine(line))),
+        Err(ChoicesFault::BadLine(line)) => return Err(refuse_times(
+            alloc,
+            TimesFault::BadLine(line),
+        )),
         Err(ChoicesFault::NoMemory) => return Err(Ending::NoMemory),
     };
     let order = match Order::of_sheet(alloc, sheet) {
@@ -84,22 +89,19 @@ fn machine_of(alloc: Global, sheet: &Sheet, bytes: &[u8]) -> Result<Machine, End
     match Machine::new(alloc, sheet, &order, choices.list()) {
         Ok(machine) => Ok(machine),
         Err(MachineFault::WrongCount { got, .. }) => {
-            Err(refuse(alloc, TimesFault::WrongCount(got)))
+            Err(refuse_times(alloc, TimesFault::WrongCount(got)))
         }
-        Err(MachineFault::NotInTable(i)) => Err(refuse(alloc, TimesFault::NotInTable(i))),
+        Err(MachineFault::NotInTable(i)) => Err(refuse_times(alloc, TimesFault::NotInTable(i))),
         Err(MachineFault::NoMemory) => Err(Ending::NoMemory),
     }
 }
 
 // The ending for a condition that refuses the file of times.
-fn refuse(alloc: Global, fault: TimesFault) -> Ending
-    ensures tells { Tells result (input_refused fault) }
+fn refuse_times(alloc: Global, fault: TimesFault) -> Ending
+    ensures tells { Tells result (input_refused (Times fault)) }
     ensures refused { IsBeforeOut (status_of result) }
     ensures no_fault { status_of result ≢ Status.ReadFault }
     ensures line { IsLine (status_of result) (line_of result) }
 {
-    match input_page(alloc, fault) {
-        Ok(page) => Ending::InputRefused(page),
-        Err(_) => Ending::NoMemory,
-    }
+    refuse(alloc, InputFault::Times(fault))
 }

@@ -1,12 +1,13 @@
 //! Runs over memory. The expected texts are worked from the definitions, by hand or by an independent program.
 
+mod certificates;
 mod reports;
-mod rooms;
 mod sheets;
 mod traces;
 
 use crate::run::run;
 use crate::status::Status;
+use certificates::{CERTIFICATES, CUT_REFUSALS, LEFT, LEFT_CERTIFICATE, LEFT_STEADY, VERDICTS};
 use prta_outside::{MemoryShelf, MemorySink};
 use reports::{
     MANY, MANY_END, MANY_LEDGER_END, MANY_LEDGER_START, MANY_START, QUARTER_LEDGER,
@@ -21,10 +22,10 @@ use traces::{LONG, LONG_END, LONG_START, PAIR_TIMES, PAIR_TRACE, TIMES};
 #[derive(Clone, Copy)]
 struct Case {
     words: &'static [&'static str],
-    // The name of the sheet on the shelf, the sheet, the file of times, and the number of a read that fails; 0 for none.
+    // The name of the sheet on the shelf, the sheet, the second file, and the number of a read that fails; 0 for none.
     name: &'static str,
     sheet: Text,
-    times: Text,
+    second: Text,
     failing_read: u64,
     // How many bytes out takes in all and in a call, and the number of a put that fails; 0 for none.
     room: usize,
@@ -38,11 +39,15 @@ struct Case {
 
 const NAME: &str = "s.toml";
 
-const SECOND: &str = "times";
+const SECOND: &str = "second";
 
 const LEDGER_WORDS: &[&str] = &["ledger", NAME];
 
 const CHECK_WORDS: &[&str] = &["check", NAME];
+
+const CERTIFY_WORDS: &[&str] = &["certify", NAME];
+
+const VERIFY_WORDS: &[&str] = &["verify", NAME, SECOND];
 
 const TRACE_WORDS: &[&str] = &["simulate", NAME, SECOND];
 
@@ -51,7 +56,7 @@ const SERVED: Case = Case {
     words: &["analyse", NAME],
     name: NAME,
     sheet: AS_IT_IS,
-    times: Text::Given(PAIR_TIMES),
+    second: Text::Given(PAIR_TIMES),
     failing_read: 0,
     room: 65_536,
     most: 65_536,
@@ -80,6 +85,21 @@ const PASSED: Case = Case {
     status: Status::Done,
     out: YES,
     ..CHECKED
+};
+
+const CERTIFIED: Case = Case {
+    words: CERTIFY_WORDS,
+    sheet: Text::Given(LEFT),
+    out: LEFT_CERTIFICATE,
+    ..SERVED
+};
+
+const VERIFIED: Case = Case {
+    words: VERIFY_WORDS,
+    sheet: Text::Given(LEFT),
+    second: Text::Given(LEFT_CERTIFICATE),
+    out: LEFT_STEADY,
+    ..SERVED
 };
 
 const TRACED: Case = Case {
@@ -129,7 +149,7 @@ const TIMES_REFUSAL: Case = Case {
 };
 
 // Words, faults of the shelf and faults of the sinks.
-static CASES: [Case; 45] = [
+static CASES: [Case; 60] = [
     SERVED,
     // Words that are no command, and a name that begins with '-'.
     Case {
@@ -166,6 +186,22 @@ static CASES: [Case; 45] = [
     },
     Case {
         words: &["check", NAME, SECOND],
+        ..USAGE
+    },
+    Case {
+        words: &["certify"],
+        ..USAGE
+    },
+    Case {
+        words: &["certify", NAME, SECOND],
+        ..USAGE
+    },
+    Case {
+        words: &["verify", NAME],
+        ..USAGE
+    },
+    Case {
+        words: &["verify", NAME, SECOND, SECOND],
         ..USAGE
     },
     Case {
@@ -251,6 +287,58 @@ static CASES: [Case; 45] = [
         out: "prta check",
         ..UNWRITTEN
     },
+    CERTIFIED,
+    Case {
+        most: 10,
+        err_room: 0,
+        ..CERTIFIED
+    },
+    Case {
+        words: CERTIFY_WORDS,
+        ..UNREAD
+    },
+    Case {
+        words: CERTIFY_WORDS,
+        sheet: Text::Given(LEFT),
+        out: "prta certi",
+        ..UNWRITTEN
+    },
+    // A certificate that can't be read, and one that is the sheet.
+    VERIFIED,
+    Case {
+        most: 10,
+        failing_read: 3,
+        err_room: 0,
+        ..VERIFIED
+    },
+    Case {
+        words: VERIFY_WORDS,
+        ..UNREAD
+    },
+    Case {
+        words: VERIFY_WORDS,
+        failing_read: 2,
+        ..UNREAD
+    },
+    Case {
+        words: &["verify", NAME, "t"],
+        failing_read: 0,
+        ..UNREAD
+    },
+    Case {
+        words: &["verify", NAME, NAME],
+        status: Status::InputRefused,
+        out: "",
+        err: "prta: input refused 2 value 1\n",
+        ..VERIFIED
+    },
+    Case {
+        words: VERIFY_WORDS,
+        sheet: Text::Given(LEFT),
+        second: Text::Given(LEFT_CERTIFICATE),
+        out: "prta verif",
+        ..UNWRITTEN
+    },
     // A whole system.
     Case {
         sheet: Text::Given(SYSTEM),
@@ -295,7 +383,7 @@ static CASES: [Case; 45] = [
     },
     // An err that fails at once changes no status.
     Case {
-        times: Text::Given("2"),
+        second: Text::Given("2"),
         err_room: 0,
         err: "",
         ..TIMES_REFUSAL
@@ -311,7 +399,13 @@ static CASES: [Case; 45] = [
 ];
 
 // The other commands, with nothing to read but the sheet.
-static OTHER_WORDS: [&[&str]; 3] = [LEDGER_WORDS, CHECK_WORDS, &["simulate", NAME, "t"]];
+static OTHER_WORDS: [&[&str]; 5] = [
+    LEDGER_WORDS,
+    CHECK_WORDS,
+    CERTIFY_WORDS,
+    &["verify", NAME, "t"],
+    &["simulate", NAME, "t"],
+];
 
 const MANY_ANALYSED: Case = Case {
     sheet: Text::Given(MANY),
@@ -332,7 +426,7 @@ static LONG_TEXTS: [(Case, usize, &str); 4] = [
     (
         Case {
             sheet: Text::Given(LONG),
-            times: Text::Ones(64, ""),
+            second: Text::Ones(64, ""),
             out: LONG_START,
             ..TRACED
         },
@@ -362,10 +456,10 @@ fn words_of(alloc: Global, words: &[&str]) -> Result<Vec<String>, Fail> {
 
 fn shelf_of(alloc: Global, case: &Case) -> Result<MemoryShelf, Fail> {
     let sheet = bytes_of(alloc, &case.sheet)?;
-    let times = bytes_of(alloc, &case.times)?;
+    let second = bytes_of(alloc, &case.second)?;
     let mut shelf = MemoryShelf::new(alloc);
     shelf.add(case.name, &sheet)?;
-    shelf.add(SECOND, &times)?;
+    shelf.add(SECOND, &second)?;
     shelf.refuse(case.failing_read)?;
     Ok(shelf)
 }
@@ -470,11 +564,63 @@ fn every_report_reads_so(rt: HostRuntime) -> Result<(), Fail> {
 }
 
 #[test]
+fn every_certificate_is_found_so(rt: HostRuntime) -> Result<(), Fail> {
+    for (i, (sheet, text)) in CERTIFICATES.iter().enumerate() {
+        let case = Case {
+            sheet: *sheet,
+            out: text,
+            ..CERTIFIED
+        };
+        assert!(rt; ends_so(rt.alloc(), &case)?, "certificate {i}");
+    }
+    Ok(())
+}
+
+#[test]
+fn every_certificate_is_worth_so(rt: HostRuntime) -> Result<(), Fail> {
+    for (i, (sheet, certificate, status, text)) in VERDICTS.iter().enumerate() {
+        let (out, err) = match status {
+            Status::InputRefused => ("", *text),
+            _ => (*text, ""),
+        };
+        let case = Case {
+            sheet: *sheet,
+            second: *certificate,
+            status: *status,
+            out,
+            err,
+            ..VERIFIED
+        };
+        assert!(rt; ends_so(rt.alloc(), &case)?, "verdict {i}");
+    }
+    Ok(())
+}
+
+// A certificate that was cut off is refused at its last line.
+#[test]
+fn every_prefix_is_refused(rt: HostRuntime) -> Result<(), Fail> {
+    let whole = LEFT_CERTIFICATE.as_bytes();
+    for length in 0..whole.len() {
+        let part = &whole[..length];
+        let feeds = part.iter().filter(|byte| **byte == b'\n').count();
+        let case = Case {
+            second: Text::Bytes(part),
+            status: Status::InputRefused,
+            out: "",
+            err: CUT_REFUSALS[feeds.min(2)],
+            ..VERIFIED
+        };
+        assert!(rt; ends_so(rt.alloc(), &case)?, "prefix {length}");
+    }
+    Ok(())
+}
+
+#[test]
 fn every_file_of_times_ends_so(rt: HostRuntime) -> Result<(), Fail> {
     for (i, (sheet, times, status, text)) in TIMES.iter().enumerate() {
         let case = Case {
             sheet: Text::Given(sheet),
-            times: *times,
+            second: *times,
             ..ending(TRACED, *status, text)
         };
         assert!(rt; ends_so(rt.alloc(), &case)?, "times {i}");
@@ -484,7 +630,7 @@ fn every_file_of_times_ends_so(rt: HostRuntime) -> Result<(), Fail> {
 
 #[test]
 fn a_full_out_has_a_prefix(rt: HostRuntime) -> Result<(), Fail> {
-    for served in [SERVED, LEDGER, CHECKED, PASSED, TRACED] {
+    for served in [SERVED, LEDGER, CHECKED, PASSED, CERTIFIED, VERIFIED, TRACED] {
         let text = served.out.as_bytes();
         for room in 0..text.len() {
             let (status, out, err) = run_of(rt.alloc(), &Case { room, ..served })?;

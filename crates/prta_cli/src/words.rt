@@ -1,7 +1,7 @@
 //! The words of the command line, read by hand.
 
 ghost use Rattle.std.specs.Prelude.{◌≡◌, option_map};
-ghost use Rattle.prta_cli.specs.Words.{texts, command, command_of, sheet_command, sheet_name};
+ghost use Rattle.prta_cli.specs.Words.{texts, command, command_of, sheet_command, two_file_command, sheet_name};
 
 /// A command, with the names of the files that it reads.
 #[derive(Clone, Copy)]
@@ -12,6 +12,10 @@ pub enum Command<'a> {
     Ledger(&'a str),
     /// `check SHEET`
     Check(&'a str),
+    /// `certify SHEET`
+    Certify(&'a str),
+    /// `verify SHEET CERTIFICATE`
+    Verify(&'a str, &'a str),
     /// `simulate SHEET TIMES`
     Simulate(&'a str, &'a str),
 }
@@ -22,8 +26,11 @@ impl<'a> Command<'a> {
         ensures { result.now ≡ sheet_name (command_of self.now) }
     {
         match self {
-            Command::Analyse(sheet) | Command::Ledger(sheet) | Command::Check(sheet) => sheet,
-            Command::Simulate(sheet, _) => sheet,
+            Command::Analyse(sheet)
+            | Command::Ledger(sheet)
+            | Command::Check(sheet)
+            | Command::Certify(sheet) => sheet,
+            Command::Verify(sheet, _) | Command::Simulate(sheet, _) => sheet,
         }
     }
 }
@@ -34,9 +41,7 @@ pub fn command_from(words: &[String]) -> Option<Command<'_>>
 {
     match words {
         [word, sheet] => of_sheet(word.as_str(), sheet.as_str()),
-        [word, sheet, times] if word.as_str() == "simulate" => {
-            Some(Command::Simulate(sheet.as_str(), times.as_str()))
-        }
+        [word, sheet, second] => of_two_files(word.as_str(), sheet.as_str(), second.as_str()),
         _ => None,
     }
 }
@@ -49,6 +54,18 @@ fn of_sheet<'a>(word: &str, sheet: &'a str) -> Option<Command<'a>>
         "analyse" => Some(Command::Analyse(sheet)),
         "ledger" => Some(Command::Ledger(sheet)),
         "check" => Some(Command::Check(sheet)),
+        "certify" => Some(Command::Certify(sheet)),
+        _ => None,
+    }
+}
+
+// A command that reads a sheet and a second file, by its word.
+fn of_two_files<'a>(word: &str, sheet: &'a str, second: &'a str) -> Option<Command<'a>>
+    ensures { option_map command_of result ≡ two_file_command word.now sheet.now second.now }
+{
+    match word {
+        "verify" => Some(Command::Verify(sheet, second)),
+        "simulate" => Some(Command::Simulate(sheet, second)),
         _ => None,
     }
 }

@@ -5,4 +5,6 @@ pub mod WorkedTraces
 pub mod TraceLaws
 pub mod Analysis
 pub mod AnalysisLaws
+pub mod Certificates
 pub mod WorkedTexts
+pub mod WorkedCertificates

@@ -5,6 +5,7 @@ use Rattle.prta_mass.specs.declared.direction.Dir.{Dir}
 use Rattle.prta_mass.specs.declared.direction.Dir.TheVariants.{Up, Down}
 use Rattle.prta_sheet.specs.Sheet.{Task, task_at}
 use Rattle.prta_sheet.specs.Job.{Job, deadline_of}
+use Rattle.prta_dist.specs.declared.effect.Break.{Break}
 use Rattle.prta_ledger.specs.declared.entry.Entry.{Entry}
 use Rattle.prta_ledger.specs.declared.entry.Kind.{Kind}
 use Rattle.prta_ledger.specs.declared.entry.Kind.TheVariants.{Round, Cut, Resample, Delay}
@@ -60,6 +61,23 @@ no_line name number upper allow =
 
 abbrev pub line_of_no : List Task → Job → ℕ → List ℕ
 line_of_no tasks job upper = let task = task_at tasks job.task in no_line task.name job.number upper task.allow
+
+-- a level whose list certifies it, and one for which no list is stated
+unfoldable pub certified_line : List ℕ → List ℕ
+certified_line name = codes "level " ++ name ++ codes " certified\n"
+
+unfoldable pub uncertified_line : List ℕ → List ℕ
+uncertified_line name = codes "uncertified " ++ name ++ codes "\n"
+
+-- a job's steady number, as it is and as a decimal
+unfoldable pub steady_line : List ℕ → ℕ → ℕ → List ℕ
+steady_line name number upper =
+    codes "steady " ++ name ++ codes " " ++ decimal number ++ codes " upper " ++ decimal upper ++ codes " " ++ decimal_above upper ++ codes "\n"
+
+-- the first place where the image of a level's list is below it, with both cells
+unfoldable pub broken_line : List ℕ → Break → List ℕ
+broken_line name broken =
+    codes "broken " ++ name ++ codes " " ++ decimal broken.place ++ codes " " ++ decimal broken.had ++ codes " " ++ decimal broken.got ++ codes "\n"
 
 -- the line of a stretch of ticks in which a job runs, or none
 unfoldable pub busy_line : List ℕ → ℕ → ℕ → ℕ → List ℕ

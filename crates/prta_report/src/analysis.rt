@@ -100,7 +100,8 @@ fn push_lower(page: &mut Page, lower: u64)
     page.push(&text);
 }
 
-fn push_upper(page: &mut Page, upper: u64)
+// Both spellings of an upper number: the decimal is rounded up.
+pub(crate) fn push_upper(page: &mut Page, upper: u64)
     requires room { 64 ≤ page.old.spare }
     requires limit { upper ≤ unit }
     ensures written { page.new.written ≡ page.old.written ++ (codes " upper " ++ decimal upper ++ codes " " ++ decimal_above upper) }

@@ -4,7 +4,9 @@ ghost use Rattle.std.specs.Prelude.{◌≡◌};
 ghost use Rattle.prta_report.specs.TraceLaws.{RunsAreLongest, TraceTellsMisses};
 ghost use Rattle.prta_report.specs.WorkedTraces.{WorkedTraces};
 ghost use Rattle.prta_report.specs.AnalysisLaws.{OwnJobsInTurn};
+ghost use Rattle.prta_report.specs.Certificates.{CertifyWritesCertificate};
 ghost use Rattle.prta_report.specs.WorkedTexts.{WorkedTexts};
+ghost use Rattle.prta_report.specs.WorkedCertificates.{WorkedCertificateTexts};
 
 use crate::page::LINE;
 use prta_ticksim::finishes_tell_misses;
@@ -40,4 +42,15 @@ pub fn own_jobs_in_turn()
 /// number at its task's allowance and past it.
 pub fn worked_texts()
     ensures { WorkedTexts }
+{}
+
+/// The text of `certify` is the one of the certificate that states what is found for each level.
+pub fn certify_writes_certificate()
+    ensures { CertifyWritesCertificate }
+{}
+
+/// The texts of `certify` and `verify` for small sheets: a list that is found, certifies its level and has a steady number;
+/// levels without one; and a list that certifies nothing.
+pub fn worked_certificate_texts()
+    ensures { WorkedCertificateTexts }
 {}

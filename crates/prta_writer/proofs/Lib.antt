@@ -1,0 +1,15 @@
+pub mod Taking
+pub mod RowsInTurn
+pub mod Runs
+pub mod Standing
+pub mod Lines
+pub mod Meanings
+pub mod Finding
+pub mod Checks
+pub mod OwnEntries
+pub mod Fitting
+pub mod Parts
+pub mod StepRows
+pub mod FoundLevels
+pub mod LevelMeanings
+pub mod Stated

@@ -1,0 +1,13 @@
+-- the rows of the jobs so far
+use Rattle.std.proofs.Common.{◌≡◌, ◌+◌, ◌≤◌, ◌++◌, length, flat_map}
+use Rattle.std.specs.List.{range_with_len}
+use Rattle.prta_writer.specs.Writing.{TookAllBut}
+use Rattle.prta_writer.proofs.RowsInTurn.{job_row}
+use Rattle.prta_writer.proofs.rows.put_jobs.Given as goal
+
+abbrev pub invariant-loop-number : goal.invariant-loop-number
+invariant-loop-number g l = record {
+  took : TookAllBut (g.O.Sink.taken l.fn.out) (g.O.Sink.taken l.out) (l.fn.page.written ++ flat_map (job_row l.sheet l.task) (range_with_len 0 l.number)) l.page.written;
+  size : length l.page.written + l.page.spare ≡ length l.fn.page.written + l.fn.page.spare;
+  faults : g.O.Sink.faults l.fn.out ≤ g.O.Sink.faults l.out;
+}

@@ -1,0 +1,39 @@
+use Rattle.std.proofs.Common.{rules, ℕ, ◌++◌, List, length, flat_map, ◌∙◌, subst, arith}
+use Rattle.prta_sheet.specs.Sheet.{Sheet, sheet_order}
+use Rattle.prta_report.specs.Certificates.{level_rows, verify_rows}
+use Rattle.prta_writer.specs.Writing.{TookPart, TookAllBut}
+use Rattle.prta_writer.proofs.RowsInTurn.{row_more, row_in_part}
+use Rattle.prta_writer.proofs.Stated.{stated_read}
+use Rattle.prta_writer.proofs.verifying.put_rows.Goals as goal
+
+pub returns-in_err-put_level-clause-part : goal.returns-in_err-put_level-clause-part
+returns-in_err-put_level-clause-part g c =
+    let sheet : Sheet = c.args.sheet.now in
+    let a = g.O.Sink.taken c.args.out.now in
+    let b = g.O.Sink.taken c.loop-i.out in
+    let d = g.O.Sink.taken c.put_level.new.out in
+    let i = c.loop-i.i in
+    let row : ℕ → List ℕ = verify_rows sheet c.args.levels.now in
+    let here : TookPart b d (c.loop-i.page.written ++ row i) =
+    subst (λ level. TookPart b d (c.loop-i.page.written ++ level_rows sheet i level)) (stated_read c.args.levels.now i c.index-levels-i.result c.loop-i-test.true c.index-levels-i.is) c.in_err-put_level.ensures.part in
+    let part : TookPart a d (c.args.page.now.written ++ flat_map row (sheet_order sheet.tasks)) =
+    row_in_part a b d c.args.page.now.written row i c.loop-i.page.written c.loop-i.invariant.took (length sheet.tasks) (omega (arith, c.loop-i-test.true, c.requires.stated.count)) here in
+    search (rules, part)
+
+pub loop-i-preserved : goal.loop-i-preserved
+loop-i-preserved g c =
+    let sheet : Sheet = c.args.sheet.now in
+    let a = g.O.Sink.taken c.args.out.now in
+    let b = g.O.Sink.taken c.loop-i.out in
+    let d = g.O.Sink.taken c.put_level.new.out in
+    let i = c.loop-i.i in
+    let put = c.in_ok-put_level.ensures in
+    record {
+      took = row_more a b d c.args.page.now.written (verify_rows sheet c.args.levels.now) i c.loop-i.page.written c.loop-i.invariant.took c.put_level.new.page.written
+          (subst (λ level. TookAllBut b d (c.loop-i.page.written ++ level_rows sheet i level) c.put_level.new.page.written)
+          (stated_read c.args.levels.now i c.index-levels-i.result c.loop-i-test.true c.index-levels-i.is) put.took);
+      fits = put.fits;
+      places = put.places ∙ c.loop-i.invariant.places;
+      size = put.size ∙ c.loop-i.invariant.size;
+      faults = omega (arith, put.never_falls, c.loop-i.invariant.faults);
+    }

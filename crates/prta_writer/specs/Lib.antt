@@ -1,0 +1,6 @@
+pub mod Writing
+pub mod Report
+pub mod Checking
+pub mod Levels
+pub mod Verifying
+pub mod Meaning

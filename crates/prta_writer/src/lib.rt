@@ -1,0 +1,21 @@
+//! The texts of an accepted sheet, to a sink: reports row by row, and what is known of them before their first byte.
+#![tactic(auto)]
+
+mod checking;
+mod levels;
+mod meaning;
+mod output;
+mod report;
+mod room;
+mod rows;
+#[cfg(test)]
+mod tests;
+mod trace;
+mod verifying;
+
+pub use checking::write_check;
+pub use output::put_all;
+pub use report::{What, write_report};
+pub use room::Room;
+pub use trace::trace_page;
+pub use verifying::write_verify;

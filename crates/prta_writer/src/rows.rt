@@ -1,0 +1,200 @@
+//! The rows of one task.
+
+ghost use Rattle.std.specs.Prelude.{◌≡◌, ◌+◌, ◌≤◌, ◌<◌, ◌++◌, [], OnOk, OnErr, length, vec_len, take, flat_map, All};
+ghost use Rattle.prta_sheet.specs.Counts.{job_count};
+ghost use Rattle.prta_outside.specs.Sink.{HasRisen};
+ghost use Rattle.prta_backlog.specs.Room.{room_for};
+ghost use Rattle.prta_response.specs.Fitting.{FitsCap};
+ghost use Rattle.prta_dual.specs.Numbers.{all_bounds};
+ghost use Rattle.prta_dual.specs.Entries.{entries};
+ghost use Rattle.prta_report.specs.Text.{line_of_entry};
+ghost use Rattle.prta_backlog.specs.Level.{sheet_level};
+ghost use Rattle.prta_report.specs.Analysis.{analyse_rows, gap_rows, ledger_rows};
+ghost use Rattle.prta_writer.specs.Writing.{TookPart, TookAllBut};
+
+use crate::output::make_room;
+use crate::room::Desk;
+use prta_backlog::Bench;
+use prta_dist::{Curve, Kernel};
+use prta_dual::{Bounds, analyse_task, entries_have_room};
+use prta_jobs::TaskSet;
+use prta_ledger::{Entry, Ledger};
+use prta_outside::{Sink, SinkFault};
+use prta_report::{LINE, Page, entry_line, gap_line, job_line, own_jobs_in_turn};
+use prta_sheet::Sheet;
+
+/// Analyses a task below all tasks before it: the desk has its two numbers of each job, and just its entries.
+pub fn analyse<C: Curve, K: Kernel>(
+    bench: &mut Bench<C, K>,
+    desk: &mut Desk,
+    sheet: &Sheet,
+    task: usize,
+)
+    requires task { task < length sheet.now.tasks }
+    requires fits { FitsCap sheet.now.settings.cap (C.cells bench.old.main) (C.cells bench.old.spare) (C.cells bench.old.kept)
+        (vec_len bench.old.cells) (vec_len bench.old.tail) (vec_len bench.old.room) }
+    requires entries { room_for sheet.now ≤ desk.old.ledger.room }
+    requires jobs { job_count sheet.now task ≤ vec_len desk.old.bounds }
+    ensures numbers { take (job_count sheet.now task) desk.new.bounds.items ≡ all_bounds sheet.now (sheet_level task) }
+    ensures noted { desk.new.ledger.entries ≡ entries sheet.now (sheet_level task) }
+    ensures room { desk.old.ledger.room ≤ desk.new.ledger.room }
+    ensures jobs { vec_len desk.new.bounds ≡ vec_len desk.old.bounds }
+    ensures page { desk.new.page ≡ desk.old.page }
+    ensures fits { FitsCap sheet.now.settings.cap (C.cells bench.new.main) (C.cells bench.new.spare) (C.cells bench.new.kept)
+        (vec_len bench.new.cells) (vec_len bench.new.tail) (vec_len bench.new.room) }
+{
+    desk.ledger.clear();
+    analyse_into(bench, sheet, task, &mut desk.ledger, &mut desk.bounds);
+}
+
+// Analyses it with an empty ledger, and writes the numbers into the first places.
+fn analyse_into<C: Curve, K: Kernel>(
+    bench: &mut Bench<C, K>,
+    sheet: &Sheet,
+    task: usize,
+    ledger: &mut Ledger,
+    places: &mut [Bounds],
+)
+    requires task { task < length sheet.now.tasks }
+    requires fits { FitsCap sheet.now.settings.cap (C.cells bench.old.main) (C.cells bench.old.spare) (C.cells bench.old.kept)
+        (vec_len bench.old.cells) (vec_len bench.old.tail) (vec_len bench.old.room) }
+    requires entries { ledger.old.entries ≡ [] }
+    requires room { room_for sheet.now ≤ ledger.old.room }
+    requires places { job_count sheet.now task ≤ length places.old }
+    ensures numbers { take (job_count sheet.now task) places.new ≡ all_bounds sheet.now (sheet_level task) }
+    ensures noted { ledger.new.entries ≡ entries sheet.now (sheet_level task) }
+    ensures room { ledger.old.room ≤ ledger.new.room }
+    ensures places { length places.new ≡ length places.old }
+    ensures fits { FitsCap sheet.now.settings.cap (C.cells bench.new.main) (C.cells bench.new.spare) (C.cells bench.new.kept)
+        (vec_len bench.new.cells) (vec_len bench.new.tail) (vec_len bench.new.room) }
+{
+    entries_have_room();
+    let _tasks = sheet.tasks();
+    let count = sheet.job_count(task);
+    let higher = TaskSet::below(task);
+    analyse_task(bench, sheet, higher, task, ledger, &mut places[..count]);
+}
+
+/// Writes the rows of `analyse` for a task whose numbers are on the desk.
+pub fn put_job_rows<O: Sink>(
+    desk: &mut Desk,
+    sheet: &Sheet,
+    task: usize,
+    out: &mut O,
+) -> Result<(), SinkFault>
+    requires task { task < length sheet.now.tasks }
+    requires jobs { job_count sheet.now task ≤ vec_len desk.old.bounds }
+    requires numbers { take (job_count sheet.now task) desk.old.bounds.items ≡ all_bounds sheet.now (sheet_level task) }
+    requires page { LINE ≤ length desk.old.page.written + desk.old.page.spare }
+    ensures took { OnOk result (TookAllBut (O.taken out.old) (O.taken out.new) (desk.old.page.written ++ analyse_rows sheet.now task) desk.new.page.written) }
+    ensures fault { OnErr result (HasRisen (O.faults out.old) (O.faults out.new)) }
+    ensures part { OnErr result (TookPart (O.taken out.old) (O.taken out.new) (desk.old.page.written ++ analyse_rows sheet.now task)) }
+    ensures never_falls { O.faults out.old ≤ O.faults out.new }
+    ensures size { length desk.new.page.written + desk.new.page.spare ≡ length desk.old.page.written + desk.old.page.spare }
+    ensures others { desk.new ≡ record desk.old { page = desk.new.page } }
+{
+    let found = &desk.bounds[..sheet.job_count(task)];
+    put_jobs(&mut desk.page, sheet, task, found, out)
+}
+
+/// Writes the rows of `ledger` for a task whose numbers and entries are on the desk.
+pub fn put_gap_rows<O: Sink>(
+    desk: &mut Desk,
+    sheet: &Sheet,
+    task: usize,
+    out: &mut O,
+) -> Result<(), SinkFault>
+    requires task { task < length sheet.now.tasks }
+    requires jobs { job_count sheet.now task ≤ vec_len desk.old.bounds }
+    requires numbers { take (job_count sheet.now task) desk.old.bounds.items ≡ all_bounds sheet.now (sheet_level task) }
+    requires entries { desk.old.ledger.entries ≡ entries sheet.now (sheet_level task) }
+    requires page { LINE ≤ length desk.old.page.written + desk.old.page.spare }
+    ensures took { OnOk result (TookAllBut (O.taken out.old) (O.taken out.new) (desk.old.page.written ++ ledger_rows sheet.now task) desk.new.page.written) }
+    ensures fault { OnErr result (HasRisen (O.faults out.old) (O.faults out.new)) }
+    ensures part { OnErr result (TookPart (O.taken out.old) (O.taken out.new) (desk.old.page.written ++ ledger_rows sheet.now task)) }
+    ensures never_falls { O.faults out.old ≤ O.faults out.new }
+    ensures size { length desk.new.page.written + desk.new.page.spare ≡ length desk.old.page.written + desk.old.page.spare }
+    ensures others { desk.new ≡ record desk.old { page = desk.new.page } }
+{
+    let found = &desk.bounds[..sheet.job_count(task)];
+    put_entries(&mut desk.page, sheet, desk.ledger.entries(), out)?;
+    put_gaps(&mut desk.page, sheet, task, found, &desk.ledger, out)?;
+    Ok(())
+}
+
+// A line for each job.
+fn put_jobs<O: Sink>(
+    page: &mut Page,
+    sheet: &Sheet,
+    task: usize,
+    found: &[Bounds],
+    out: &mut O,
+) -> Result<(), SinkFault>
+    requires task { task < length sheet.now.tasks }
+    requires numbers { found.now ≡ all_bounds sheet.now (sheet_level task) }
+    requires page { LINE ≤ length page.old.written + page.old.spare }
+    ensures took { OnOk result (TookAllBut (O.taken out.old) (O.taken out.new) (page.old.written ++ analyse_rows sheet.now task) page.new.written) }
+    ensures fault { OnErr result (HasRisen (O.faults out.old) (O.faults out.new)) }
+    ensures part { OnErr result (TookPart (O.taken out.old) (O.taken out.new) (page.old.written ++ analyse_rows sheet.now task)) }
+    ensures never_falls { O.faults out.old ≤ O.faults out.new }
+    ensures size { length page.new.written + page.new.spare ≡ length page.old.written + page.old.spare }
+{
+    let _tasks = sheet.tasks();
+    own_jobs_in_turn();
+    for number in 0..found.len() {
+        make_room(page, out)?;
+        job_line(page, sheet, task, number as u32, found[number]);
+    }
+    Ok(())
+}
+
+// A line for each entry.
+fn put_entries<O: Sink>(
+    page: &mut Page,
+    sheet: &Sheet,
+    entries: &[Entry],
+    out: &mut O,
+) -> Result<(), SinkFault>
+    requires tasks { All (λ entry. entry.task < length sheet.now.tasks) entries.now }
+    requires page { LINE ≤ length page.old.written + page.old.spare }
+    ensures took { OnOk result (TookAllBut (O.taken out.old) (O.taken out.new) (page.old.written ++ flat_map (line_of_entry sheet.now.tasks) entries.now) page.new.written) }
+    ensures fault { OnErr result (HasRisen (O.faults out.old) (O.faults out.new)) }
+    ensures part { OnErr result (TookPart (O.taken out.old) (O.taken out.new) (page.old.written ++ flat_map (line_of_entry sheet.now.tasks) entries.now)) }
+    ensures never_falls { O.faults out.old ≤ O.faults out.new }
+    ensures size { length page.new.written + page.new.spare ≡ length page.old.written + page.old.spare }
+{
+    for entry in entries {
+        make_room(page, out)?;
+        entry_line(page, sheet, *entry);
+    }
+    Ok(())
+}
+
+// A line for each job, with what its entries add up to.
+fn put_gaps<O: Sink>(
+    page: &mut Page,
+    sheet: &Sheet,
+    task: usize,
+    found: &[Bounds],
+    ledger: &Ledger,
+    out: &mut O,
+) -> Result<(), SinkFault>
+    requires task { task < length sheet.now.tasks }
+    requires numbers { found.now ≡ all_bounds sheet.now (sheet_level task) }
+    requires entries { ledger.now.entries ≡ entries sheet.now (sheet_level task) }
+    requires page { LINE ≤ length page.old.written + page.old.spare }
+    ensures took { OnOk result (TookAllBut (O.taken out.old) (O.taken out.new) (page.old.written ++ gap_rows sheet.now task) page.new.written) }
+    ensures fault { OnErr result (HasRisen (O.faults out.old) (O.faults out.new)) }
+    ensures part { OnErr result (TookPart (O.taken out.old) (O.taken out.new) (page.old.written ++ gap_rows sheet.now task)) }
+    ensures never_falls { O.faults out.old ≤ O.faults out.new }
+    ensures size { length page.new.written + page.new.spare ≡ length page.old.written + page.old.spare }
+{
+    let _tasks = sheet.tasks();
+    own_jobs_in_turn();
+    for number in 0..found.len() {
+        make_room(page, out)?;
+        let sum = ledger.sum_for(task, number as u32);
+        gap_line(page, sheet, task, number as u32, found[number], sum);
+    }
+    Ok(())
+}

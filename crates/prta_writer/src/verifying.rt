@@ -1,0 +1,283 @@
+//! The text of `verify`: what the lists of a certificate are worth.
+
+ghost use Rattle.std.specs.Prelude.{◌≡◌, ◌+◌, ◌≤◌, ◌<◌, ◌++◌, true, None, is_none, option_map, IfOk, IfSome, OnOk, OnErr, length, vec_len, flat_map, All};
+ghost use Rattle.prta_mass.specs.Unit.{unit};
+ghost use Rattle.prta_sheet.specs.Sheet.{sheet_order};
+ghost use Rattle.prta_sheet.specs.Counts.{job_count};
+ghost use Rattle.prta_outside.specs.Sink.{HasRisen};
+ghost use Rattle.prta_response.specs.Fitting.{FitsCap};
+ghost use Rattle.prta_certfile.specs.Laws.{AreLevels, IsLevel};
+ghost use Rattle.prta_certfile.specs.Steps.{cells_by_steps, AreBelow};
+ghost use Rattle.prta_report.specs.Certificates.{stated_at, broken_in, broken_task, jobs_in_turn, steady_rows, level_rows, verify_rows, steady_text, verify_text};
+ghost use Rattle.prta_writer.specs.Report.{fits, most_jobs};
+ghost use Rattle.prta_writer.specs.Meaning.{NumbersHold};
+ghost use Rattle.prta_writer.specs.Verifying.{task_of, IsBrokenAt, steady_lines};
+ghost use Rattle.prta_writer.specs.Writing.{Took, TookPart, TookAllBut};
+
+use crate::meaning::what_levels_mean;
+use crate::output::{make_room, put_all};
+use crate::room::Room;
+use prta_backlog::Bench;
+use prta_certfile::{CertLevel, Certificate, StepList, steps_are_lists};
+use prta_certificate::{check, load_steps, steady};
+use prta_dist::{Break, Curve, Kernel};
+use prta_outside::{Sink, SinkFault};
+use prta_report::{LINE, Page, broken_line, certified_line, steady_line, uncertified_line};
+use prta_sheet::Sheet;
+
+/// Writes what a certificate is worth for a sheet: the steady numbers of each level with a list, where every list certifies
+/// its level, else the first level whose list doesn't. All lists are tested before the first byte. It takes no memory: it fails
+/// only where out does, and then out took a prefix of the text.
+pub fn write_verify<O: Sink>(
+    room: &mut Room,
+    sheet: &Sheet,
+    certificate: &Certificate,
+    out: &mut O,
+) -> Result<bool, SinkFault>
+    requires room { fits sheet.now room.old ≡ true }
+    requires stated { AreLevels sheet.now.tasks sheet.now.settings.cap certificate.now }
+    ensures text { OnOk result (Took (O.taken out.old) (O.taken out.new) (verify_text sheet.now certificate.now)) }
+    ensures yes { IfOk result (λ yes. yes ≡ is_none (broken_task sheet.now certificate.now)) }
+    ensures hold { broken_task sheet.now certificate.now ≡ None → NumbersHold sheet.now certificate.now }
+    ensures fault { OnErr result (HasRisen (O.faults out.old) (O.faults out.new)) }
+    ensures part { OnErr result (TookPart (O.taken out.old) (O.taken out.new) (verify_text sheet.now certificate.now)) }
+    ensures room { room.new ≡ room.old }
+{
+    what_levels_mean(sheet, certificate);
+    let levels = certificate.levels();
+    let Room {
+        bench,
+        desk,
+        steady,
+        ..
+    } = room;
+    desk.page.clear();
+    desk.page.push(b"prta verify 1\n");
+    if let Some(broken) = first_broken(bench, sheet, levels) {
+        broken_line(&mut desk.page, sheet, broken.task, broken.at);
+        put_all(out, desk.page.bytes())?;
+        return Ok(false);
+    }
+    put_levels(bench, &mut desk.page, steady, sheet, levels, out)?;
+    Ok(true)
+}
+
+/// A task for whose level a list is stated that doesn't certify it, and the first place where the list's image is below it.
+#[derive(Clone, Copy)]
+pub(crate) struct Broken {
+    pub task: usize,
+    pub at: Break,
+}
+
+// The first such task, in sheet order.
+fn first_broken<C: Curve, K: Kernel>(
+    bench: &mut Bench<C, K>,
+    sheet: &Sheet,
+    levels: &[CertLevel],
+) -> Option<Broken>
+    requires fits { FitsCap sheet.now.settings.cap (C.cells bench.old.main) (C.cells bench.old.spare) (C.cells bench.old.kept)
+        (vec_len bench.old.cells) (vec_len bench.old.tail) (vec_len bench.old.room) }
+    requires stated { AreLevels sheet.now.tasks sheet.now.settings.cap levels.now }
+    ensures first { option_map task_of result ≡ broken_task sheet.now levels.now }
+    ensures at { IfSome result (IsBrokenAt sheet.now levels.now) }
+    ensures on_sheet { IfSome result (λ broken. broken.task < length sheet.now.tasks) }
+    ensures fits { FitsCap sheet.now.settings.cap (C.cells bench.new.main) (C.cells bench.new.spare) (C.cells bench.new.kept)
+        (vec_len bench.new.cells) (vec_len bench.new.tail) (vec_len bench.new.room) }
+{
+    for i in 0..levels.len() {
+        if let Some(at) = broken_at(bench, sheet, i, &levels[i]) {
+            return Some(Broken { task: i, at });
+        }
+    }
+    None
+}
+
+// The first place where the image of a stated list is below it.
+fn broken_at<C: Curve, K: Kernel>(
+    bench: &mut Bench<C, K>,
+    sheet: &Sheet,
+    task: usize,
+    level: &CertLevel,
+) -> Option<Break>
+    requires task { task < length sheet.now.tasks }
+    requires stated { IsLevel sheet.now.settings.cap level.now }
+    requires fits { FitsCap sheet.now.settings.cap (C.cells bench.old.main) (C.cells bench.old.spare) (C.cells bench.old.kept)
+        (vec_len bench.old.cells) (vec_len bench.old.tail) (vec_len bench.old.room) }
+    ensures broken { result ≡ broken_in sheet.now task level.now }
+    ensures fits { FitsCap sheet.now.settings.cap (C.cells bench.new.main) (C.cells bench.new.spare) (C.cells bench.new.kept)
+        (vec_len bench.new.cells) (vec_len bench.new.tail) (vec_len bench.new.room) }
+{
+    match level {
+        CertLevel::Steps(steps) => {
+            steps_are_lists();
+            load_steps(bench, steps);
+            check(bench, sheet, task)
+        }
+        CertLevel::OverFull { .. } | CertLevel::BeyondCap { .. } => None,
+    }
+}
+
+// The rows of all tasks, and the last line.
+fn put_levels<C: Curve, K: Kernel, O: Sink>(
+    bench: &mut Bench<C, K>,
+    page: &mut Page,
+    places: &mut [u64],
+    sheet: &Sheet,
+    levels: &[CertLevel],
+    out: &mut O,
+) -> Result<(), SinkFault>
+    requires fits { FitsCap sheet.now.settings.cap (C.cells bench.old.main) (C.cells bench.old.spare) (C.cells bench.old.kept)
+        (vec_len bench.old.cells) (vec_len bench.old.tail) (vec_len bench.old.room) }
+    requires places { most_jobs sheet.now ≤ length places.old }
+    requires stated { AreLevels sheet.now.tasks sheet.now.settings.cap levels.now }
+    requires page { LINE ≤ length page.old.written + page.old.spare }
+    ensures text { OnOk result (Took (O.taken out.old) (O.taken out.new) (page.old.written ++ steady_text sheet.now levels.now)) }
+    ensures fault { OnErr result (HasRisen (O.faults out.old) (O.faults out.new)) }
+    ensures part { OnErr result (TookPart (O.taken out.old) (O.taken out.new) (page.old.written ++ steady_text sheet.now levels.now)) }
+    ensures never_falls { O.faults out.old ≤ O.faults out.new }
+    ensures fits { FitsCap sheet.now.settings.cap (C.cells bench.new.main) (C.cells bench.new.spare) (C.cells bench.new.kept)
+        (vec_len bench.new.cells) (vec_len bench.new.tail) (vec_len bench.new.room) }
+    ensures places { length places.new ≡ length places.old }
+    ensures size { length page.new.written + page.new.spare ≡ length page.old.written + page.old.spare }
+{
+    put_rows(bench, page, places, sheet, levels, out)?;
+    make_room(page, out)?;
+    page.push(b"end\n");
+    put_all(out, page.bytes())?;
+    Ok(())
+}
+
+// The rows of all tasks.
+fn put_rows<C: Curve, K: Kernel, O: Sink>(
+    bench: &mut Bench<C, K>,
+    page: &mut Page,
+    places: &mut [u64],
+    sheet: &Sheet,
+    levels: &[CertLevel],
+    out: &mut O,
+) -> Result<(), SinkFault>
+    requires fits { FitsCap sheet.now.settings.cap (C.cells bench.old.main) (C.cells bench.old.spare) (C.cells bench.old.kept)
+        (vec_len bench.old.cells) (vec_len bench.old.tail) (vec_len bench.old.room) }
+    requires places { most_jobs sheet.now ≤ length places.old }
+    requires stated { AreLevels sheet.now.tasks sheet.now.settings.cap levels.now }
+    requires page { LINE ≤ length page.old.written + page.old.spare }
+    ensures took { OnOk result (TookAllBut (O.taken out.old) (O.taken out.new) (page.old.written ++ flat_map (verify_rows sheet.now levels.now) (sheet_order sheet.now.tasks)) page.new.written) }
+    ensures fault { OnErr result (HasRisen (O.faults out.old) (O.faults out.new)) }
+    ensures part { OnErr result (TookPart (O.taken out.old) (O.taken out.new) (page.old.written ++ flat_map (verify_rows sheet.now levels.now) (sheet_order sheet.now.tasks))) }
+    ensures never_falls { O.faults out.old ≤ O.faults out.new }
+    ensures size { length page.new.written + page.new.spare ≡ length page.old.written + page.old.spare }
+    ensures fits { FitsCap sheet.now.settings.cap (C.cells bench.new.main) (C.cells bench.new.spare) (C.cells bench.new.kept)
+        (vec_len bench.new.cells) (vec_len bench.new.tail) (vec_len bench.new.room) }
+    ensures places { length places.new ≡ length places.old }
+{
+    for i in 0..levels.len() {
+        put_level(bench, page, places, sheet, i, &levels[i], out)?;
+    }
+    Ok(())
+}
+
+// The rows of a task, by what is stated of its level.
+fn put_level<C: Curve, K: Kernel, O: Sink>(
+    bench: &mut Bench<C, K>,
+    page: &mut Page,
+    places: &mut [u64],
+    sheet: &Sheet,
+    task: usize,
+    level: &CertLevel,
+    out: &mut O,
+) -> Result<(), SinkFault>
+    requires task { task < length sheet.now.tasks }
+    requires stated { IsLevel sheet.now.settings.cap level.now }
+    requires fits { FitsCap sheet.now.settings.cap (C.cells bench.old.main) (C.cells bench.old.spare) (C.cells bench.old.kept)
+        (vec_len bench.old.cells) (vec_len bench.old.tail) (vec_len bench.old.room) }
+    requires places { most_jobs sheet.now ≤ length places.old }
+    requires page { LINE ≤ length page.old.written + page.old.spare }
+    ensures took { OnOk result (TookAllBut (O.taken out.old) (O.taken out.new) (page.old.written ++ level_rows sheet.now task level.now) page.new.written) }
+    ensures fault { OnErr result (HasRisen (O.faults out.old) (O.faults out.new)) }
+    ensures part { OnErr result (TookPart (O.taken out.old) (O.taken out.new) (page.old.written ++ level_rows sheet.now task level.now)) }
+    ensures never_falls { O.faults out.old ≤ O.faults out.new }
+    ensures size { length page.new.written + page.new.spare ≡ length page.old.written + page.old.spare }
+    ensures fits { FitsCap sheet.now.settings.cap (C.cells bench.new.main) (C.cells bench.new.spare) (C.cells bench.new.kept)
+        (vec_len bench.new.cells) (vec_len bench.new.tail) (vec_len bench.new.room) }
+    ensures places { length places.new ≡ length places.old }
+{
+    make_room(page, out)?;
+    match level {
+        CertLevel::Steps(steps) => {
+            certified_line(page, sheet, task);
+            put_steady(bench, page, places, sheet, task, steps, out)
+        }
+        CertLevel::OverFull { .. } | CertLevel::BeyondCap { .. } => {
+            uncertified_line(page, sheet, task);
+            Ok(())
+        }
+    }
+}
+
+// The steady numbers of a task's jobs, for the list with these steps.
+fn put_steady<C: Curve, K: Kernel, O: Sink>(
+    bench: &mut Bench<C, K>,
+    page: &mut Page,
+    places: &mut [u64],
+    sheet: &Sheet,
+    task: usize,
+    steps: &StepList,
+    out: &mut O,
+) -> Result<(), SinkFault>
+    requires task { task < length sheet.now.tasks }
+    requires below { AreBelow sheet.now.settings.cap steps.now }
+    requires fits { FitsCap sheet.now.settings.cap (C.cells bench.old.main) (C.cells bench.old.spare) (C.cells bench.old.kept)
+        (vec_len bench.old.cells) (vec_len bench.old.tail) (vec_len bench.old.room) }
+    requires places { most_jobs sheet.now ≤ length places.old }
+    requires page { LINE ≤ length page.old.written + page.old.spare }
+    ensures took { OnOk result (TookAllBut (O.taken out.old) (O.taken out.new) (page.old.written ++ steady_rows sheet.now task (cells_by_steps sheet.now.settings.cap steps.now)) page.new.written) }
+    ensures fault { OnErr result (HasRisen (O.faults out.old) (O.faults out.new)) }
+    ensures part { OnErr result (TookPart (O.taken out.old) (O.taken out.new) (page.old.written ++ steady_rows sheet.now task (cells_by_steps sheet.now.settings.cap steps.now))) }
+    ensures never_falls { O.faults out.old ≤ O.faults out.new }
+    ensures size { length page.new.written + page.new.spare ≡ length page.old.written + page.old.spare }
+    ensures fits { FitsCap sheet.now.settings.cap (C.cells bench.new.main) (C.cells bench.new.spare) (C.cells bench.new.kept)
+        (vec_len bench.new.cells) (vec_len bench.new.tail) (vec_len bench.new.room) }
+    ensures places { length places.new ≡ length places.old }
+{
+    load_steps(bench, steps);
+    let found = &mut places[..jobs_in_turn(sheet, task)];
+    steady(bench, sheet, task, found);
+    put_numbers(page, sheet, task, found, out)
+}
+
+// How many jobs of a task a hyperperiod has.
+fn jobs_in_turn(sheet: &Sheet, task: usize) -> usize
+    requires { task < length sheet.now.tasks }
+    ensures count { result ≡ jobs_in_turn sheet.now task }
+    ensures few { result ≤ job_count sheet.now task }
+    ensures most { result ≤ most_jobs sheet.now }
+{
+    let tasks = sheet.tasks();
+    (sheet.hyperperiod() / tasks[task].period() as u64) as usize
+}
+
+// A line for each of them.
+fn put_numbers<O: Sink>(
+    page: &mut Page,
+    sheet: &Sheet,
+    task: usize,
+    found: &[u64],
+    out: &mut O,
+) -> Result<(), SinkFault>
+    requires task { task < length sheet.now.tasks }
+    requires few { length found.now ≤ job_count sheet.now task }
+    requires low { All (λ upper. upper ≤ unit) found.now }
+    requires page { LINE ≤ length page.old.written + page.old.spare }
+    ensures took { OnOk result (TookAllBut (O.taken out.old) (O.taken out.new) (page.old.written ++ steady_lines sheet.now task found.now) page.new.written) }
+    ensures fault { OnErr result (HasRisen (O.faults out.old) (O.faults out.new)) }
+    ensures part { OnErr result (TookPart (O.taken out.old) (O.taken out.new) (page.old.written ++ steady_lines sheet.now task found.now)) }
+    ensures never_falls { O.faults out.old ≤ O.faults out.new }
+    ensures size { length page.new.written + page.new.spare ≡ length page.old.written + page.old.spare }
+{
+    let _tasks = sheet.tasks();
+    for number in 0..found.len() {
+        make_room(page, out)?;
+        steady_line(page, sheet, task, number as u32, found[number]);
+    }
+    Ok(())
+}
