@@ -1,0 +1,16 @@
+pub mod Filters
+pub mod Ranges
+pub mod Tables
+pub mod Allowances
+pub mod TaskLists
+pub mod Greedy
+pub mod GreedyLoop
+pub mod Finishes
+pub mod UpOperations
+pub mod Uppers
+pub mod Misses
+pub mod Reordered
+pub mod Verdicts
+pub mod RoomFits
+pub mod Numbers
+pub mod LowestPlaces
