@@ -1,5 +1,5 @@
 -- The answers and endings of commands.
-use Rattle.std.proofs.Common.{◌≡◌, ◌≢◌, ℕ, ◌<◌, Bool, true, false, if◌then◌else◌, nat_lt, Option, Some, None, is_some, is_none, IfSome, IsSomeAnd, List, [], ◌∷◌, ◌++◌, length, refl, sym, ap, subst, inl, inr, arith}
+use Rattle.std.proofs.Common.{◌≡◌, ◌≢◌, ℕ, ◌<◌, Bool, true, false, not, nat_lt, Option, Some, None, is_some, is_none, IfSome, IsSomeAnd, List, [], ◌∷◌, ◌++◌, length, refl, sym, ap, subst, inl, inr, arith}
 use Rattle.std.specs.Option.{option_map_or}
 use Rattle.std.proofs.lemmas.Bool.Decides.{nat_tests}
 use Rattle.prta_outside.specs.Shelf.{count_of, count_of_failed}
@@ -10,6 +10,9 @@ use Rattle.prta_sheet.specs.Stated.{sheet_stated}
 use Rattle.prta_report.specs.Trace.{simulate_text}
 use Rattle.prta_report.specs.Analysis.{check_text, failing_job}
 use Rattle.prta_report.specs.Certificates.{verify_text, broken_task}
+use Rattle.prta_report.specs.Assignment.{assign_text}
+use Rattle.prta_audsley.specs.Verdict.{verdict}
+use Rattle.prta_writer.specs.Assigning.{is_found}
 use Rattle.prta_writer.specs.Meaning.{NumbersHold}
 use Rattle.prta_cli.specs.declared.status.Status.{Status}
 use Rattle.prta_cli.specs.declared.status.Status.TheVariants as status
@@ -24,8 +27,8 @@ use Rattle.prta_cli.specs.declared.input.InputFault.TheVariants.{Times, Certific
 use Rattle.prta_cli.specs.declared.times.TheConstants.{TIMES_LIMIT}
 use Rattle.prta_cli.specs.declared.times.TimesFault.{TimesFault}
 use Rattle.prta_cli.specs.declared.times.TimesFault.TheVariants as times
-use Rattle.prta_cli.specs.Words.{Command, command, analyse, ledger, check, certify, verify, simulate, sheet_name, second_name}
-use Rattle.prta_cli.specs.Answer.{Answer, Files, answer, answer_to, answer_to_file, answer_to_sheet, judgement, verification, simulation, told, told_no, plain, refused, input_refused, IsSheetOf, IsCertificateOf, IsAcceptedFile}
+use Rattle.prta_cli.specs.Words.{Command, command, analyse, ledger, check, certify, assign, verify, simulate, sheet_name, second_name}
+use Rattle.prta_cli.specs.Answer.{Answer, Files, answer, answer_to, answer_to_file, answer_to_sheet, judged, judgement, verification, simulation, told, told_no, plain, refused, input_refused, IsSheetOf, IsCertificateOf, IsAcceptedFile}
 use Rattle.prta_cli.specs.Times.{times_in, times_fault}
 use Rattle.prta_cli.specs.Ending.{status_of, IsServed, EndsBy}
 use Rattle.prta_writer.specs.Writing.{Took, TookPart}
@@ -86,14 +89,7 @@ module _ (first last : Option (List ℕ)) where
 
 -- ---- a text that says yes or no
 
-abbrev pub judged : Bool → List ℕ → Answer
-judged failed text = if failed then told_no text else told text
-
--- it has the text either way, and doesn't refuse the sheet
-pub judged_serves : (failed : Bool) (text : List ℕ) → IsServed (judged failed text).status × ((judged failed text).out ≡ text)
-judged_serves true text = (tt, refl)
-judged_serves false text = (tt, refl)
-
+-- it doesn't refuse the sheet
 judged_accepts : (failed : Bool) (text : List ℕ) → (judged failed text).status ≢ status.SheetRefused
 judged_accepts true text = λ e. cc
 judged_accepts false text = λ e. cc
@@ -110,6 +106,17 @@ no_is (Some x) text e = refl
 pub none_found : {A : Type 0} (found : Option A) → true ≡ is_none found → found ≡ None
 none_found None e = refl
 none_found (Some x) e = cc
+
+-- the same where yes stands for something that was found
+pub found_is : (found : Bool) (text : List ℕ) → found ≡ true → judged (not found) text ≡ told text
+found_is found text e = rw e refl
+
+pub not_found_is : (found : Bool) (text : List ℕ) → found ≡ false → judged (not found) text ≡ told_no text
+not_found_is found text e = rw e refl
+
+pub judged_serves : (failed : Bool) (text : List ℕ) → IsServed (judged failed text).status × ((judged failed text).out ≡ text)
+judged_serves true text = (tt, refl)
+judged_serves false text = (tt, refl)
 
 -- ---- the answer to an accepted sheet doesn't refuse it
 
@@ -137,6 +144,7 @@ answer_accepts files (analyse name) sheet = λ e. cc
 answer_accepts files (ledger name) sheet = λ e. cc
 answer_accepts files (check name) sheet = judged_accepts (is_some (failing_job sheet)) (check_text sheet)
 answer_accepts files (certify name) sheet = λ e. cc
+answer_accepts files (assign name) sheet = judged_accepts (not (is_found (verdict sheet))) (assign_text sheet)
 answer_accepts files (verify name certificate) sheet = verification_accepts sheet (files certificate)
 answer_accepts files (simulate name times) sheet = simulation_accepts sheet (files times)
 

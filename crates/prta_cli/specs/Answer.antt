@@ -1,5 +1,5 @@
 -- What the program answers to words, where a shelf tells its files.
-use Rattle.std.specs.Prelude.{◌≡◌, ℕ, Option, Some, None, is_some, IsSomeAnd, option_and_then, List, [], codes, if◌then◌else◌}
+use Rattle.std.specs.Prelude.{◌≡◌, ℕ, Bool, not, Option, Some, None, is_some, IsSomeAnd, option_and_then, List, [], codes, if◌then◌else◌}
 use Rattle.std.specs.Option.{option_map_or}
 use Rattle.prta_sheet.specs.Sheet.{Sheet}
 use Rattle.prta_sheet.specs.declared.fault.SheetFault.{SheetFault}
@@ -9,11 +9,14 @@ use Rattle.prta_certfile.specs.declared.level.CertLevel.{CertLevel}
 use Rattle.prta_certfile.specs.Reading.{fault_of, levels_of}
 use Rattle.prta_report.specs.Analysis.{analyse_text, ledger_text, check_text, failing_job}
 use Rattle.prta_report.specs.Certificates.{certify_text, verify_text, broken_task}
+use Rattle.prta_report.specs.Assignment.{assign_text}
+use Rattle.prta_audsley.specs.Verdict.{verdict}
+use Rattle.prta_writer.specs.Assigning.{is_found}
 use Rattle.prta_cli.specs.declared.status.Status.{Status}
 use Rattle.prta_cli.specs.declared.status.Status.TheVariants.{Done, No, Usage, SheetRefused, InputRefused, ReadFault, WriteFault, NoMemory}
 use Rattle.prta_cli.specs.declared.input.InputFault.{InputFault}
 use Rattle.prta_cli.specs.declared.input.InputFault.TheVariants.{Times, Certificate}
-use Rattle.prta_cli.specs.Words.{Command, analyse, ledger, check, certify, verify, simulate, command, sheet_name}
+use Rattle.prta_cli.specs.Words.{Command, analyse, ledger, check, certify, assign, verify, simulate, command, sheet_name}
 use Rattle.prta_cli.specs.Times.{times_in, times_fault}
 use Rattle.prta_report.specs.Trace.{simulate_text}
 use Rattle.prta_cli.specs.Refused.{refused_line, input_line}
@@ -42,6 +45,10 @@ told text = record { status = Done; out = text; err = [] }
 abbrev pub told_no : List ℕ → Answer
 told_no text = record { status = No; out = text; err = [] }
 
+-- that of a text which says no where something fails, and else yes
+abbrev pub judged : Bool → List ℕ → Answer
+judged failed text = if failed then told_no text else told text
+
 abbrev pub plain : Status → Answer
 plain status = record { status = status; out = []; err = err_line status }
 
@@ -53,7 +60,11 @@ input_refused fault = record { status = InputRefused; out = []; err = input_line
 
 -- to `check`, by the accepted sheet: no, where there is a job whose upper number doesn't pass
 abbrev pub checking : Sheet → Answer
-checking sheet = if is_some (failing_job sheet) then told_no (check_text sheet) else told (check_text sheet)
+checking sheet = judged (is_some (failing_job sheet)) (check_text sheet)
+
+-- to `assign`: no, where no order is found
+abbrev pub assigning : Sheet → Answer
+assigning sheet = judged (not (is_found (verdict sheet))) (assign_text sheet)
 
 -- to `simulate`, by the accepted sheet and by what is held under the name of the times
 abbrev pub simulation : Sheet → Option (List ℕ) → Answer
@@ -62,7 +73,7 @@ simulation sheet (Some bytes) = option_map_or (λ fault. input_refused (Times fa
 
 -- to `verify`, by the accepted sheet and the levels that a certificate states: no, where some list is broken
 abbrev pub judgement : Sheet → List CertLevel → Answer
-judgement sheet levels = if is_some (broken_task sheet levels) then told_no (verify_text sheet levels) else told (verify_text sheet levels)
+judgement sheet levels = judged (is_some (broken_task sheet levels)) (verify_text sheet levels)
 
 -- by what is held under the name of the certificate
 abbrev pub verification : Sheet → Option (List ℕ) → Answer
@@ -78,6 +89,7 @@ answer_to_sheet files (analyse name) sheet = told (analyse_text sheet)
 answer_to_sheet files (ledger name) sheet = told (ledger_text sheet)
 answer_to_sheet files (check name) sheet = checking sheet
 answer_to_sheet files (certify name) sheet = told (certify_text sheet)
+answer_to_sheet files (assign name) sheet = assigning sheet
 answer_to_sheet files (verify name certificate) sheet = verification sheet (files certificate)
 answer_to_sheet files (simulate name times) sheet = simulation sheet (files times)
 

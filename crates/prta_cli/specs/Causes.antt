@@ -7,9 +7,10 @@ use Rattle.prta_cli.specs.declared.status.Status.{Status}
 use Rattle.prta_cli.specs.declared.status.Status.TheVariants.{Done, No, Usage, SheetRefused, InputRefused, ReadFault, WriteFault, NoMemory}
 use Rattle.prta_cli.specs.declared.input.InputFault.{InputFault}
 use Rattle.prta_certfile.specs.Reading.{levels_of}
-use Rattle.prta_cli.specs.Words.{Command, analyse, ledger, check, certify, verify, simulate, command, sheet_name, second_name}
+use Rattle.prta_cli.specs.Words.{Command, analyse, ledger, check, certify, assign, verify, simulate, command, sheet_name, second_name}
 use Rattle.prta_cli.specs.Answer.{Files, answer, err_line, sheet_under, IsAcceptedFile}
 use Rattle.prta_writer.specs.Meaning.{AreAround, AreClose, ChancesPass, AreFound, NumbersHold}
+use Rattle.prta_audsley.specs.Verdict.{VerdictHolds}
 use Rattle.prta_cli.specs.Refused.{refused_line, input_line}
 
 -- between two lists of the names of a shelf's failed reads the count of a name rose
@@ -40,14 +41,20 @@ HoldsFor sheet held = IsSomeAnd held (λ bytes. NumbersHold sheet (levels_of she
 
 -- what a run that ended with Done shows of the sheet that is stated under the name: of `analyse` and `ledger` that each job's numbers are
 -- around its exact chance, and no further apart than its entries add up to; of `check` that each exact chance passes; of `certify` that
--- what is found for each level is so; and of `verify` that the steady numbers for each list of the certificate hold in every hyperperiod
+-- what is found for each level is so; of `assign` that what the verdict says is so; and of `verify` that the steady numbers for each list of the certificate hold in every hyperperiod
 abbrev pub IsShown : Files → Command → Type 0
 IsShown files (analyse name) = IsSomeAnd (sheet_under files name) (λ sheet. AreAround sheet × AreClose sheet)
 IsShown files (ledger name) = IsSomeAnd (sheet_under files name) (λ sheet. AreAround sheet × AreClose sheet)
 IsShown files (check name) = IsSomeAnd (sheet_under files name) ChancesPass
 IsShown files (certify name) = IsSomeAnd (sheet_under files name) AreFound
+IsShown files (assign name) = IsSomeAnd (sheet_under files name) VerdictHolds
 IsShown files (verify name certificate) = IsSomeAnd (sheet_under files name) (λ sheet. HoldsFor sheet (files certificate))
 IsShown files (simulate name times) = ⊤
+
+-- what a run that ended with No shows: of `assign` that what the verdict says is so
+abbrev pub IsShownByNo : Files → Command → Type 0
+IsShownByNo files (assign name) = IsSomeAnd (sheet_under files name) VerdictHolds
+IsShownByNo files c = ⊤
 
 -- where a shelf tells its files, the answer to the words has the status
 abbrev pub AnswerIs : Option Files → List (List ℕ) → Status → Type 0

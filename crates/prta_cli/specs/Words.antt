@@ -2,7 +2,7 @@
 use Rattle.std.specs.Prelude.{ℕ, Option, Some, None, List, [], ◌∷◌, map, codes, bytes_eq, if◌then◌else◌, String, string_bytes}
 use Rattle.std.specs.declared.alloc.Global.{Global}
 use Rattle.prta_cli.specs.declared.words.Command.{Command as NamedCommand}
-use Rattle.prta_cli.specs.declared.words.Command.TheVariants.{Analyse, Ledger, Check, Certify, Verify, Simulate}
+use Rattle.prta_cli.specs.declared.words.Command.TheVariants.{Analyse, Ledger, Check, Certify, Assign, Verify, Simulate}
 
 -- the words as bytes
 abbrev pub texts : List (String Global) → List (List ℕ)
@@ -14,6 +14,7 @@ pub data Command : Type 0 where
   ledger : List ℕ → Command
   check : List ℕ → Command
   certify : List ℕ → Command
+  assign : List ℕ → Command
   verify : List ℕ → List ℕ → Command
   simulate : List ℕ → List ℕ → Command
 
@@ -24,6 +25,7 @@ sheet_command word sheet =
     else if bytes_eq word (codes "ledger") then Some (ledger sheet)
     else if bytes_eq word (codes "check") then Some (check sheet)
     else if bytes_eq word (codes "certify") then Some (certify sheet)
+    else if bytes_eq word (codes "assign") then Some (assign sheet)
     else None
 
 -- the command that reads a sheet and a second file, by its word
@@ -45,6 +47,7 @@ command_of (Analyse sheet) = analyse sheet.now
 command_of (Ledger sheet) = ledger sheet.now
 command_of (Check sheet) = check sheet.now
 command_of (Certify sheet) = certify sheet.now
+command_of (Assign sheet) = assign sheet.now
 command_of (Verify sheet certificate) = verify sheet.now certificate.now
 command_of (Simulate sheet times) = simulate sheet.now times.now
 
@@ -54,6 +57,7 @@ sheet_name (analyse sheet) = sheet
 sheet_name (ledger sheet) = sheet
 sheet_name (check sheet) = sheet
 sheet_name (certify sheet) = sheet
+sheet_name (assign sheet) = sheet
 sheet_name (verify sheet certificate) = sheet
 sheet_name (simulate sheet times) = sheet
 
@@ -62,5 +66,6 @@ second_name (analyse sheet) = None
 second_name (ledger sheet) = None
 second_name (check sheet) = None
 second_name (certify sheet) = None
+second_name (assign sheet) = None
 second_name (verify sheet certificate) = Some certificate
 second_name (simulate sheet times) = Some times

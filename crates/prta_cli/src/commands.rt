@@ -3,8 +3,9 @@
 ghost use Rattle.std.specs.Prelude.{◌≡◌, ◌≢◌, ◌∷◌, ◌++◌, [], IfSome};
 ghost use Rattle.prta_outside.specs.Sink.{HasRisen};
 ghost use Rattle.prta_certfile.specs.Laws.{AreLevels};
+ghost use Rattle.prta_audsley.specs.Verdict.{VerdictHolds};
 ghost use Rattle.prta_cli.specs.declared.status.Status.{Status};
-ghost use Rattle.prta_cli.specs.Answer.{told, checking, judgement, verification, simulation};
+ghost use Rattle.prta_cli.specs.Answer.{told, checking, assigning, judgement, verification, simulation};
 ghost use Rattle.prta_cli.specs.Ending.{status_of, line_of, IsServed, EndsBy};
 ghost use Rattle.prta_writer.specs.Report.{report_text};
 ghost use Rattle.prta_cli.specs.Causes.{IsAfterWords, IsLine, HoldsFor};
@@ -16,7 +17,7 @@ use crate::verification::certificate_under;
 use prta_certfile::Certificate;
 use prta_outside::{Shelf, Sink};
 use prta_sheet::Sheet;
-use prta_writer::{Room, What, put_all, write_check, write_report, write_verify};
+use prta_writer::{Room, What, assignment, put_all, write_check, write_report, write_verify};
 use std::alloc::Global;
 
 /// Writes the report of a sheet.
@@ -58,6 +59,27 @@ pub fn check<O: Sink>(alloc: Global, sheet: &Sheet, out: &mut O) -> Ending
     match write_check(&mut room, sheet, out) {
         Ok(true) => Ending::Done,
         Ok(false) => Ending::No,
+        Err(_) => Ending::WriteFault,
+    }
+}
+
+/// Writes the verdict on the orders of priorities of a sheet.
+pub fn assign<O: Sink>(alloc: Global, sheet: &Sheet, out: &mut O) -> Ending
+    ensures ends { EndsBy result (assigning sheet.now) (O.taken out.old) (O.taken out.new) }
+    ensures holds { IsServed (status_of result) → VerdictHolds sheet.now }
+    ensures write_fault { status_of result ≡ Status.WriteFault → HasRisen (O.faults out.old) (O.faults out.new) }
+    ensures nothing { ¬ IsServed (status_of result) → status_of result ≢ Status.WriteFault → out.new ≡ out.old }
+    ensures ending { IsAfterWords (status_of result) }
+    ensures no_fault { status_of result ≢ Status.ReadFault }
+    ensures line { IsLine (status_of result) (line_of result) }
+{
+    let (page, found) = match assignment(alloc, sheet) {
+        Ok(answer) => answer,
+        Err(_) => return Ending::NoMemory,
+    };
+    match put_all(out, page.bytes()) {
+        Ok(()) if found => Ending::Done,
+        Ok(()) => Ending::No,
         Err(_) => Ending::WriteFault,
     }
 }

@@ -5,10 +5,10 @@ ghost use Rattle.prta_outside.specs.Sink.{HasRisen};
 ghost use Rattle.prta_cli.specs.Words.{texts, command, command_of};
 ghost use Rattle.prta_cli.specs.Answer.{answer, answer_to};
 ghost use Rattle.prta_cli.specs.Ending.{status_of, line_of, IsServed, EndsBy};
-ghost use Rattle.prta_cli.specs.Causes.{SheetFailed, ReadFailed, IsReadFault, IsShown, AnswerIs, IsOrNoMemory, IsAfterWords, IsLine, IsLineFor};
+ghost use Rattle.prta_cli.specs.Causes.{SheetFailed, ReadFailed, IsReadFault, IsShown, IsShownByNo, AnswerIs, IsOrNoMemory, IsAfterWords, IsLine, IsLineFor};
 ghost use Rattle.prta_writer.specs.Writing.{Took, TookPart, TookLine};
 
-use crate::commands::{check, report, simulate, verify};
+use crate::commands::{assign, check, report, simulate, verify};
 use crate::ending::Ending;
 use crate::sheet::sheet_under;
 use crate::status::Status;
@@ -30,6 +30,7 @@ pub fn run<S: Shelf, O: Sink, E: Sink>(
     ensures no { result ≡ Status.No → AnswerIs (S.held shelf.old) (texts words.now) Status.No }
     ensures text { IsServed result → IfSome (S.held shelf.old) (λ files. Took (O.taken out.old) (O.taken out.new) (answer files (texts words.now)).out) }
     ensures shown { result ≡ Status.Done → IfSome (S.held shelf.old) (λ files. IsSomeAnd (command (texts words.now)) (IsShown files)) }
+    ensures shown_by_no { result ≡ Status.No → IfSome (S.held shelf.old) (λ files. IsSomeAnd (command (texts words.now)) (IsShownByNo files)) }
 
     // The cause of every other status; want of memory is free.
     ensures usage { (result ≡ Status.Usage) ↔ (command (texts words.now) ≡ None) }
@@ -73,6 +74,7 @@ fn tell<E: Sink>(ending: &Ending, err: &mut E)
 fn obey<S: Shelf, O: Sink>(alloc: Global, words: &[String], shelf: &mut S, out: &mut O) -> Ending
     ensures ends { IfSome (S.held shelf.old) (λ files. EndsBy result (answer files (texts words.now)) (O.taken out.old) (O.taken out.new)) }
     ensures shown { status_of result ≡ Status.Done → IfSome (S.held shelf.old) (λ files. IsSomeAnd (command (texts words.now)) (IsShown files)) }
+    ensures shown_by_no { status_of result ≡ Status.No → IfSome (S.held shelf.old) (λ files. IsSomeAnd (command (texts words.now)) (IsShownByNo files)) }
     ensures usage { (status_of result ≡ Status.Usage) ↔ (command (texts words.now) ≡ None) }
     ensures sheet_refused_where { ¬ SheetFailed (texts words.now) (S.faults shelf.old) (S.faults shelf.new) →
         IfSome (S.held shelf.old) (λ files. (answer files (texts words.now)).status ≡ Status.SheetRefused → IsOrNoMemory (status_of result) Status.SheetRefused) }
@@ -97,6 +99,7 @@ fn obey<S: Shelf, O: Sink>(alloc: Global, words: &[String], shelf: &mut S, out: 
 fn follow<S: Shelf, O: Sink>(alloc: Global, command: Command, shelf: &mut S, out: &mut O) -> Ending
     ensures ends { IfSome (S.held shelf.old) (λ files. EndsBy result (answer_to files (command_of command.entry)) (O.taken out.old) (O.taken out.new)) }
     ensures shown { status_of result ≡ Status.Done → IfSome (S.held shelf.old) (λ files. IsShown files (command_of command.entry)) }
+    ensures shown_by_no { status_of result ≡ Status.No → IfSome (S.held shelf.old) (λ files. IsShownByNo files (command_of command.entry)) }
     ensures ending { IsAfterWords (status_of result) }
     ensures fault { status_of result ≡ Status.ReadFault → IsReadFault (S.held shelf.old) (command_of command.entry) (S.faults shelf.old) (S.faults shelf.new) }
     ensures no_fault { status_of result ≢ Status.ReadFault → S.faults shelf.new ≡ S.faults shelf.old }
@@ -114,6 +117,7 @@ fn follow<S: Shelf, O: Sink>(alloc: Global, command: Command, shelf: &mut S, out
         Command::Ledger(_) => report(alloc, &sheet, What::Ledger, out),
         Command::Check(_) => check(alloc, &sheet, out),
         Command::Certify(_) => report(alloc, &sheet, What::Certify, out),
+        Command::Assign(_) => assign(alloc, &sheet, out),
         Command::Verify(_, certificate) => verify(alloc, &sheet, certificate, shelf, out),
         Command::Simulate(_, times) => simulate(alloc, &sheet, times, shelf, out),
     }

@@ -8,7 +8,8 @@ ghost use Rattle.prta_cli.specs.Answer.{status_number};
 pub enum Status {
     /// Out took the whole text.
     Done,
-    /// The same, and `check` found a job whose upper number doesn't pass, or `verify` a list that certifies nothing.
+    /// The same, and `check` found a job whose upper number doesn't pass, `verify` a list that certifies
+    /// nothing, or `assign` no order.
     No,
     /// The words are no command.
     Usage,

@@ -1,6 +1,7 @@
 //! Runs over memory. The expected texts are worked from the definitions, by hand or by an independent program.
 
 mod certificates;
+mod orders;
 mod reports;
 mod sheets;
 mod traces;
@@ -8,6 +9,7 @@ mod traces;
 use crate::run::run;
 use crate::status::Status;
 use certificates::{CERTIFICATES, CUT_REFUSALS, LEFT, LEFT_CERTIFICATE, LEFT_STEADY, VERDICTS};
+use orders::{ABOVE, ABOVE_ORDER, ORDERS};
 use prta_outside::{MemoryShelf, MemorySink};
 use reports::{
     MANY, MANY_END, MANY_LEDGER_END, MANY_LEDGER_START, MANY_START, QUARTER_LEDGER,
@@ -46,6 +48,8 @@ const LEDGER_WORDS: &[&str] = &["ledger", NAME];
 const CHECK_WORDS: &[&str] = &["check", NAME];
 
 const CERTIFY_WORDS: &[&str] = &["certify", NAME];
+
+const ASSIGN_WORDS: &[&str] = &["assign", NAME];
 
 const VERIFY_WORDS: &[&str] = &["verify", NAME, SECOND];
 
@@ -91,6 +95,13 @@ const CERTIFIED: Case = Case {
     words: CERTIFY_WORDS,
     sheet: Text::Given(LEFT),
     out: LEFT_CERTIFICATE,
+    ..SERVED
+};
+
+const ASSIGNED: Case = Case {
+    words: ASSIGN_WORDS,
+    sheet: Text::Given(ABOVE),
+    out: ABOVE_ORDER,
     ..SERVED
 };
 
@@ -148,74 +159,32 @@ const TIMES_REFUSAL: Case = Case {
     ..TRACED
 };
 
-// Words, faults of the shelf and faults of the sinks.
-static CASES: [Case; 60] = [
+// Words that are no command.
+static OTHER_COMMANDS: [&[&str]; 18] = [
+    &[],
+    &["analyse"],
+    &["analyze", NAME],
+    &[NAME, "analyse"],
+    &["analyse", NAME, SECOND],
+    &["ledger"],
+    &["ledger", NAME, SECOND],
+    &["check"],
+    &["check", NAME, SECOND],
+    &["certify"],
+    &["certify", NAME, SECOND],
+    &["assign"],
+    &["assign", NAME, SECOND],
+    &["verify", NAME],
+    &["verify", NAME, SECOND, SECOND],
+    &["simulate", NAME],
+    &["simulate", NAME, SECOND, SECOND],
+    &["analyse", NAME, SECOND, SECOND],
+];
+
+// Faults of the shelf and faults of the sinks.
+static CASES: [Case; 33] = [
     SERVED,
-    // Words that are no command, and a name that begins with '-'.
-    Case {
-        words: &[],
-        ..USAGE
-    },
-    Case {
-        words: &["analyse"],
-        ..USAGE
-    },
-    Case {
-        words: &["analyze", NAME],
-        ..USAGE
-    },
-    Case {
-        words: &[NAME, "analyse"],
-        ..USAGE
-    },
-    Case {
-        words: &["analyse", NAME, SECOND],
-        ..USAGE
-    },
-    Case {
-        words: &["ledger"],
-        ..USAGE
-    },
-    Case {
-        words: &["ledger", NAME, SECOND],
-        ..USAGE
-    },
-    Case {
-        words: &["check"],
-        ..USAGE
-    },
-    Case {
-        words: &["check", NAME, SECOND],
-        ..USAGE
-    },
-    Case {
-        words: &["certify"],
-        ..USAGE
-    },
-    Case {
-        words: &["certify", NAME, SECOND],
-        ..USAGE
-    },
-    Case {
-        words: &["verify", NAME],
-        ..USAGE
-    },
-    Case {
-        words: &["verify", NAME, SECOND, SECOND],
-        ..USAGE
-    },
-    Case {
-        words: &["simulate", NAME],
-        ..USAGE
-    },
-    Case {
-        words: &["simulate", NAME, SECOND, SECOND],
-        ..USAGE
-    },
-    Case {
-        words: &["analyse", NAME, SECOND, SECOND],
-        ..USAGE
-    },
+    // A name that begins with '-'.
     Case {
         words: &["analyse", "-s.toml"],
         name: "-s.toml",
@@ -287,58 +256,6 @@ static CASES: [Case; 60] = [
         out: "prta check",
         ..UNWRITTEN
     },
-    CERTIFIED,
-    Case {
-        most: 10,
-        err_room: 0,
-        ..CERTIFIED
-    },
-    Case {
-        words: CERTIFY_WORDS,
-        ..UNREAD
-    },
-    Case {
-        words: CERTIFY_WORDS,
-        sheet: Text::Given(LEFT),
-        out: "prta certi",
-        ..UNWRITTEN
-    },
-    // A certificate that can't be read, and one that is the sheet.
-    VERIFIED,
-    Case {
-        most: 10,
-        failing_read: 3,
-        err_room: 0,
-        ..VERIFIED
-    },
-    Case {
-        words: VERIFY_WORDS,
-        ..UNREAD
-    },
-    Case {
-        words: VERIFY_WORDS,
-        failing_read: 2,
-        ..UNREAD
-    },
-    Case {
-        words: &["verify", NAME, "t"],
-        failing_read: 0,
-        ..UNREAD
-    },
-    Case {
-        words: &["verify", NAME, NAME],
-        status: Status::InputRefused,
-        out: "",
-        err: "prta: input refused 2 value 1\n",
-        ..VERIFIED
-    },
-    Case {
-        words: VERIFY_WORDS,
-        sheet: Text::Given(LEFT),
-        second: Text::Given(LEFT_CERTIFICATE),
-        out: "prta verif",
-        ..UNWRITTEN
-    },
     // A whole system.
     Case {
         sheet: Text::Given(SYSTEM),
@@ -398,11 +315,83 @@ static CASES: [Case; 60] = [
     },
 ];
 
+// The same for `certify`, `assign` and `verify`.
+static LATER_CASES: [Case; 14] = [
+    CERTIFIED,
+    Case {
+        most: 10,
+        err_room: 0,
+        ..CERTIFIED
+    },
+    Case {
+        words: CERTIFY_WORDS,
+        ..UNREAD
+    },
+    Case {
+        words: CERTIFY_WORDS,
+        sheet: Text::Given(LEFT),
+        out: "prta certi",
+        ..UNWRITTEN
+    },
+    Case {
+        most: 10,
+        err_room: 0,
+        ..ASSIGNED
+    },
+    Case {
+        words: ASSIGN_WORDS,
+        ..UNREAD
+    },
+    Case {
+        words: ASSIGN_WORDS,
+        sheet: Text::Given(ABOVE),
+        out: "prta assig",
+        ..UNWRITTEN
+    },
+    // A certificate that can't be read, and one that is the sheet.
+    VERIFIED,
+    Case {
+        most: 10,
+        failing_read: 3,
+        err_room: 0,
+        ..VERIFIED
+    },
+    Case {
+        words: VERIFY_WORDS,
+        ..UNREAD
+    },
+    Case {
+        words: VERIFY_WORDS,
+        failing_read: 2,
+        ..UNREAD
+    },
+    Case {
+        words: &["verify", NAME, "t"],
+        failing_read: 0,
+        ..UNREAD
+    },
+    Case {
+        words: &["verify", NAME, NAME],
+        status: Status::InputRefused,
+        out: "",
+        err: "prta: input refused 2 value 1\n",
+        ..VERIFIED
+    },
+    Case {
+        words: VERIFY_WORDS,
+        sheet: Text::Given(LEFT),
+        second: Text::Given(LEFT_CERTIFICATE),
+        out: "prta verif",
+        ..UNWRITTEN
+    },
+];
+
 // The other commands, with nothing to read but the sheet.
-static OTHER_WORDS: [&[&str]; 5] = [
+static OTHER_WORDS: [&[&str]; 6] = [
     LEDGER_WORDS,
     CHECK_WORDS,
     CERTIFY_WORDS,
+    ASSIGN_WORDS,
     &["verify", NAME, "t"],
     &["simulate", NAME, "t"],
 ];
@@ -511,6 +500,23 @@ fn every_case_ends_so(rt: HostRuntime) -> Result<(), Fail> {
     Ok(())
 }
 
+#[test]
+fn every_later_case_ends_so(rt: HostRuntime) -> Result<(), Fail> {
+    for (i, case) in LATER_CASES.iter().enumerate() {
+        assert!(rt; ends_so(rt.alloc(), case)?, "case {i}");
+    }
+    Ok(())
+}
+
+#[test]
+fn other_words_are_no_command(rt: HostRuntime) -> Result<(), Fail> {
+    for (i, words) in OTHER_COMMANDS.iter().enumerate() {
+        let case = Case { words, ..USAGE };
+        assert!(rt; ends_so(rt.alloc(), &case)?, "words {i}");
+    }
+    Ok(())
+}
+
 // A refused sheet is told by every command, before another file is read.
 #[test]
 fn every_sheet_ends_so(rt: HostRuntime) -> Result<(), Fail> {
@@ -572,6 +578,20 @@ fn every_certificate_is_found_so(rt: HostRuntime) -> Result<(), Fail> {
             ..CERTIFIED
         };
         assert!(rt; ends_so(rt.alloc(), &case)?, "certificate {i}");
+    }
+    Ok(())
+}
+
+#[test]
+fn every_order_is_found_so(rt: HostRuntime) -> Result<(), Fail> {
+    for (i, (sheet, status, text)) in ORDERS.iter().enumerate() {
+        let case = Case {
+            sheet: *sheet,
+            status: *status,
+            out: text,
+            ..ASSIGNED
+        };
+        assert!(rt; ends_so(rt.alloc(), &case)?, "order {i}");
     }
     Ok(())
 }

@@ -14,6 +14,8 @@ pub enum Command<'a> {
     Check(&'a str),
     /// `certify SHEET`
     Certify(&'a str),
+    /// `assign SHEET`
+    Assign(&'a str),
     /// `verify SHEET CERTIFICATE`
     Verify(&'a str, &'a str),
     /// `simulate SHEET TIMES`
@@ -29,7 +31,8 @@ impl<'a> Command<'a> {
             Command::Analyse(sheet)
             | Command::Ledger(sheet)
             | Command::Check(sheet)
-            | Command::Certify(sheet) => sheet,
+            | Command::Certify(sheet)
+            | Command::Assign(sheet) => sheet,
             Command::Verify(sheet, _) | Command::Simulate(sheet, _) => sheet,
         }
     }
@@ -55,6 +58,7 @@ fn of_sheet<'a>(word: &str, sheet: &'a str) -> Option<Command<'a>>
         "ledger" => Some(Command::Ledger(sheet)),
         "check" => Some(Command::Check(sheet)),
         "certify" => Some(Command::Certify(sheet)),
+        "assign" => Some(Command::Assign(sheet)),
         _ => None,
     }
 }

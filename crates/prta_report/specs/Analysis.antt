@@ -5,7 +5,7 @@ use Rattle.prta_mass.specs.Passing.{passes}
 use Rattle.prta_sheet.specs.Sheet.{Sheet, task_at, sheet_order, hyperperiod}
 use Rattle.prta_sheet.specs.Job.{Job}
 use Rattle.prta_sheet.specs.Counts.{all_jobs}
-use Rattle.prta_backlog.specs.Level.{Level, sheet_level}
+use Rattle.prta_backlog.specs.Level.{sheet_level}
 use Rattle.prta_backlog.specs.Room.{own_jobs}
 use Rattle.prta_dual.specs.declared.bounds.Bounds.{Bounds}
 use Rattle.prta_dual.specs.Numbers.{lower, upper}

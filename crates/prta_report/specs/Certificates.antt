@@ -1,13 +1,13 @@
 -- The texts of `certify` and `verify`: the certificate that is found for a sheet, and what a given one is worth.
-use Rattle.std.specs.Prelude.{◌≡◌, ℕ, ◌/◌, ◌<◌, ◌++◌, is_some, Option, Some, None, List, [], map, flat_map, find, length, codes, slice_index_or}
+use Rattle.std.specs.Prelude.{◌≡◌, ℕ, ◌/◌, ◌++◌, is_some, Option, Some, None, List, [], map, flat_map, find, codes, slice_index_or}
 use Rattle.std.specs.Option.{option_map_or}
 use Rattle.std.specs.List.{range_with_len}
-use Rattle.prta_sheet.specs.Sheet.{Task, Sheet, task_at, sheet_order, hyperperiod}
+use Rattle.prta_sheet.specs.Sheet.{Sheet, task_at, sheet_order, hyperperiod}
 use Rattle.prta_sheet.specs.Job.{nth_job}
 use Rattle.prta_dist.specs.declared.effect.Break.{Break}
 use Rattle.prta_backlog.specs.Level.{sheet_level}
 use Rattle.prta_certfile.specs.declared.level.CertLevel.{CertLevel}
-use Rattle.prta_certfile.specs.declared.level.CertLevel.TheVariants.{Steps, OverFull, BeyondCap}
+use Rattle.prta_certfile.specs.declared.level.CertLevel.TheVariants.{Steps, BeyondCap}
 use Rattle.prta_certfile.specs.Steps.{steps_of, cells_by_steps}
 use Rattle.prta_certfile.specs.Text.{title, level_text, cert_text}
 use Rattle.prta_certificate.specs.Certificate.{broken_at, steady_number}

@@ -8,3 +8,5 @@ pub mod AnalysisLaws
 pub mod Certificates
 pub mod WorkedTexts
 pub mod WorkedCertificates
+pub mod Assignment
+pub mod WorkedAssignments

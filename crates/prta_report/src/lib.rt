@@ -2,6 +2,7 @@
 #![tactic(auto)]
 
 mod analysis;
+mod assignment;
 mod certificate;
 mod model;
 mod number;
@@ -11,13 +12,15 @@ mod run;
 mod tests;
 
 pub use analysis::{count_line, entry_line, gap_line, job_line, no_line};
+pub use assignment::{order_line, set_line};
 pub use certificate::{
     beyond_line, broken_line, certified_line, level_head, overfull_line, pair_text, steady_line,
     uncertified_line,
 };
 pub use model::{
     certify_writes_certificate, own_jobs_in_turn, runs_are_longest, stated_limit,
-    trace_tells_misses, worked_certificate_texts, worked_texts, worked_traces,
+    trace_tells_misses, worked_assignment_texts, worked_certificate_texts, worked_texts,
+    worked_traces,
 };
 pub use number::push_number;
 pub use page::{LINE, Page};

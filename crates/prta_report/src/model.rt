@@ -7,6 +7,7 @@ ghost use Rattle.prta_report.specs.AnalysisLaws.{OwnJobsInTurn};
 ghost use Rattle.prta_report.specs.Certificates.{CertifyWritesCertificate};
 ghost use Rattle.prta_report.specs.WorkedTexts.{WorkedTexts};
 ghost use Rattle.prta_report.specs.WorkedCertificates.{WorkedCertificateTexts};
+ghost use Rattle.prta_report.specs.WorkedAssignments.{WorkedAssignmentTexts};
 
 use crate::page::LINE;
 use prta_ticksim::finishes_tell_misses;
@@ -53,4 +54,10 @@ pub fn certify_writes_certificate()
 /// levels without one; and a list that certifies nothing.
 pub fn worked_certificate_texts()
     ensures { WorkedCertificateTexts }
+{}
+
+/// The texts of `assign` for small sheets: an order that isn't the sheet's, two tasks of which neither can be the lower one,
+/// and a task that the numbers neither pass nor rule out.
+pub fn worked_assignment_texts()
+    ensures { WorkedAssignmentTexts }
 {}

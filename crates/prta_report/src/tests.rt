@@ -2,10 +2,10 @@
 
 use super::*;
 use prta_dual::Bounds;
-use prta_jobs::Job;
+use prta_jobs::{Job, Order, TaskSet};
 use prta_ledger::{Entry, Kind};
 use prta_mass::{Dir, TimeTable, UNIT};
-use prta_sheet::{Settings, Sheet, Task, make_sheet};
+use prta_sheet::{Settings, Sheet, TASK_LIMIT, Task, make_sheet};
 use std::alloc::Global;
 use std::test::Fail;
 
@@ -236,6 +236,51 @@ fn lines_of_analyses(rt: HostRuntime) -> Result<(), Fail> {
     let sheet = pair(rt.alloc())?;
     for (row, line) in ROWS.iter() {
         let page = page_of_row(rt.alloc(), &sheet, row)?;
+        assert!(rt; page.bytes() == *line);
+    }
+    Ok(())
+}
+
+static ORDERS: [([usize; 2], &[u8]); 2] = [
+    ([0, 1], b"order ctrl log-2\n"),
+    ([1, 0], b"order log-2 ctrl\n"),
+];
+
+#[test]
+fn lines_of_orders(rt: HostRuntime) -> Result<(), Fail> {
+    let sheet = pair(rt.alloc())?;
+    for (tasks, line) in ORDERS.iter() {
+        let order = Order::new(rt.alloc(), &sheet, tasks)?;
+        let mut page = Page::with_room(rt.alloc(), LINE)?;
+        if order.list().len() <= sheet.tasks().len() {
+            order_line(&mut page, &sheet, &order);
+        }
+        assert!(rt; page.bytes() == *line);
+    }
+    Ok(())
+}
+
+// A word, the tasks of a set, and the line; a number past the sheet names no task.
+static SETS: [(&str, &[usize], &[u8]); 3] = [
+    ("impossible", &[1, 0], b"impossible ctrl log-2\n"),
+    ("undecided", &[1, 11], b"undecided log-2\n"),
+    ("undecided", &[], b"undecided\n"),
+];
+
+#[test]
+fn lines_of_sets(rt: HostRuntime) -> Result<(), Fail> {
+    let sheet = pair(rt.alloc())?;
+    for (word, tasks, line) in SETS.iter() {
+        let mut set = TaskSet::empty();
+        for task in tasks.iter() {
+            if *task < TASK_LIMIT {
+                set = set.with(*task);
+            }
+        }
+        let mut page = Page::with_room(rt.alloc(), LINE)?;
+        if word.len() <= 16 {
+            set_line(&mut page, &sheet, word, set);
+        }
         assert!(rt; page.bytes() == *line);
     }
     Ok(())

@@ -2,7 +2,6 @@ pub mod Taking
 pub mod RowsInTurn
 pub mod Runs
 pub mod Standing
-pub mod Lines
 pub mod Meanings
 pub mod Finding
 pub mod Checks

@@ -16,7 +16,7 @@ use Rattle.prta_dual.specs.Entries.{job_sum}
 use Rattle.prta_report.specs.Text.{line_of_job, line_of_gap}
 use Rattle.prta_writer.specs.Writing.{TookPart, TookAllBut}
 use Rattle.prta_writer.proofs.Taking.{more_put, longer, part_then, part_of_more}
-use Rattle.prta_writer.proofs.Lines.{lines_more}
+use Rattle.prta_report.proofs.Lines.{lines_more}
 
 -- the rows of a job, by its number
 abbrev pub job_row : Sheet → ℕ → ℕ → List ℕ

@@ -4,3 +4,4 @@ pub mod Checking
 pub mod Levels
 pub mod Verifying
 pub mod Meaning
+pub mod Assigning

@@ -1,6 +1,8 @@
 //! The texts of an accepted sheet, to a sink: reports row by row, and what is known of them before their first byte.
 #![tactic(auto)]
 
+mod assigning;
+mod bench;
 mod checking;
 mod levels;
 mod meaning;
@@ -13,6 +15,7 @@ mod tests;
 mod trace;
 mod verifying;
 
+pub use assigning::assignment;
 pub use checking::write_check;
 pub use output::put_all;
 pub use report::{What, write_report};

@@ -3,6 +3,7 @@
 ghost use Rattle.std.specs.Prelude.{◌≡◌, ◌≤◌, true, IfOk};
 ghost use Rattle.prta_writer.specs.Report.{fits, most_jobs};
 
+use crate::bench::bench_for;
 use prta_backlog::{Bench, room_for};
 use prta_convplain::Plain;
 use prta_dist::{Curve, Dense};
@@ -61,12 +62,7 @@ impl Room {
     pub fn new(alloc: Global, sheet: &Sheet) -> Result<Room, NoMemory>
         ensures { IfOk result (λ room. fits sheet.now room ≡ true) }
     {
-        let _tasks = sheet.tasks();
-        let cap = sheet.cap();
-        let main = Dense::new(alloc, Plain, cap)?;
-        let spare = Dense::new(alloc, Plain, cap)?;
-        let kept = Dense::new(alloc, Plain, cap)?;
-        let bench = Bench::new(alloc, main, spare, kept, Plain)?;
+        let bench = bench_for(alloc, sheet)?;
         let entries = room_for(sheet);
         let ledger = Ledger::with_room(alloc, entries)?;
         let none = Bounds { lower: 0, upper: 0 };

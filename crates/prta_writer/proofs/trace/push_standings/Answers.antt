@@ -1,6 +1,6 @@
 use Rattle.std.proofs.Common.{◌++◌, ap, sym, ◌∙◌, append_assoc, arith}
 use Rattle.prta_report.specs.Trace.{standing_line}
-use Rattle.prta_writer.proofs.Lines.{lines_more}
+use Rattle.prta_report.proofs.Lines.{lines_more}
 use Rattle.prta_writer.proofs.trace.push_standings.Goals as goal
 
 pub loop-i-preserved : goal.loop-i-preserved

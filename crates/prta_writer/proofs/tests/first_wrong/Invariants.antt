@@ -1,7 +1,7 @@
 -- the room is enough for the sheet
 use Rattle.std.proofs.Common.{◌≡◌, true}
 use Rattle.prta_writer.specs.Report.{fits}
-use Rattle.prta_writer.proofs.tests.one_room_serves_for_each_text.Given as goal
+use Rattle.prta_writer.proofs.tests.first_wrong.Given as goal
 
 abbrev pub invariant-loop-row : goal.invariant-loop-row
-invariant-loop-row g l = fits l.sheet l.room ≡ true
+invariant-loop-row l = fits l.sheet l.room ≡ true
