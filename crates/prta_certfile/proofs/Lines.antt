@@ -1,20 +1,22 @@
 -- The lines of a certificate, read.
-use Rattle.std.proofs.Common.{◌≡◌, ℕ, ◌+◌, ◌^◌, ◌<◌, ◌≤◌, true, false, not, nat_eq, Option, Some, None, List, [], ◌∷◌, ◌++◌, get_or, map, flat_map, codes, decimal, option_map, option_and_then, All, refl, ap, sym, ◌∙◌, arith, inl, inr, append_assoc, append-nil, ne_eqb}
+use Rattle.std.proofs.Common.{◌≡◌, ℕ, ◌-◌, ◌^◌, ◌<◌, ◌≤◌, true, false, not, nat_eq, Option, Some, None, List, [], ◌∷◌, ◌++◌, get_or, map, flat_map, codes, decimal, option_map, option_and_then, All, refl, ap, sym, ◌∙◌, arith, inl, inr, append_assoc, append-nil, ne_eqb}
 use Rattle.std.specs.List.{list_all}
 use Rattle.std.proofs.lemmas.Bool.{and_parts, both_ways, cond-true}
 use Rattle.std.proofs.lemmas.List.Elements.{All-nil, All-cons, All-head, All-tail}
 use Rattle.std.proofs.lemmas.List.Sums.{AllPass-from_list_all}
 use Rattle.std.proofs.lemmas.List.Splits.{slice_split_none, slice_split_at}
+use Rattle.prta_number.specs.Decimal.{number_within}
 use Rattle.prta_mass.specs.Unit.{unit}
 use Rattle.prta_sheet.specs.Accepted.{is_good_name, is_name_byte}
 use Rattle.prta_certfile.specs.declared.level.CertLevel.{CertLevel}
 use Rattle.prta_certfile.specs.declared.level.CertLevel.TheVariants.{Steps, OverFull, BeyondCap}
 use Rattle.prta_certfile.specs.Steps.{AreBelow}
 use Rattle.prta_certfile.specs.Text.{level_head, pair_text, overfull_text, beyond_text, level_text}
-use Rattle.prta_certfile.specs.Reading.{cut, words, number_below, step_in, step_said, steps_said, overfull_in, reason_in, level_said, named_in, line_said}
+use Rattle.prta_certfile.specs.Reading.{cut, words, step_in, step_said, steps_said, overfull_in, reason_in, level_said, named_in, line_said}
 use Rattle.prta_certfile.specs.Laws.{IsLevel}
 use Rattle.prta_certfile.proofs.Cuts.{Lacks, lacks_literal, lacks_append, cut_at}
-use Rattle.prta_certfile.proofs.Numbers.{printed_number, decimal_lacks}
+use Rattle.prta_number.proofs.Numbers.{printed_numbers_are_read}
+use Rattle.prta_certfile.proofs.Numbers.{decimal_lacks}
 
 pub bind_some : {A B : Type 0} (f : A → Option B) (o : Option A) (x : A) (y : Option B) → o ≡ Some x → f x ≡ y → option_and_then f o ≡ y
 bind_some f o x y e h = ap (option_and_then f) e ∙ h
@@ -77,9 +79,9 @@ step_read step is =
     let value : step.1 ≤ unit = is.1 in
     bind_some step_in (cut 58 (pair_word step)) (decimal step.0, decimal step.1) (Some step)
     (cut_at 58 (decimal step.0) (decimal step.1) (decimal_lacks 58 step.0 (omega arith) (inr (omega arith))))
-    (bind_some (λ place. option_and_then (λ value. Some (place, value)) (number_below (unit + 1) (decimal step.1))) (number_below (2 ^ 32) (decimal step.0)) step.0 (Some step)
-    (printed_number (2 ^ 32) step.0 place (omega arith))
-    (bind_some (λ value. Some (step.0, value)) (number_below (unit + 1) (decimal step.1)) step.1 (Some step) (printed_number (unit + 1) step.1 (omega arith) (omega arith)) refl))
+    (bind_some (λ place. option_and_then (λ value. Some (place, value)) (number_within 0 unit (decimal step.1))) (number_within 0 (2 ^ 32 - 1) (decimal step.0)) step.0 (Some step)
+    (printed_numbers_are_read 0 (2 ^ 32 - 1) step.0 (omega arith) (omega arith) (omega arith))
+    (bind_some (λ value. Some (step.0, value)) (number_within 0 unit (decimal step.1)) step.1 (Some step) (printed_numbers_are_read 0 unit step.1 (omega arith) value (omega arith)) refl))
 
 -- ---- the steps of a line
 
@@ -142,8 +144,8 @@ overfull_line : (name : List ℕ) (work hyperperiod : ℕ) → is_good_name name
 unfolding overfull_text
 overfull_line name work hyperperiod good w h =
     let numbers : overfull_in (decimal work, decimal hyperperiod) ≡ Some (OverFull work hyperperiod) =
-    bind_some (λ work. option_and_then (λ hyperperiod. Some (OverFull work hyperperiod)) (number_below (2 ^ 64) (decimal hyperperiod))) (number_below (2 ^ 64) (decimal work)) work (Some (OverFull work hyperperiod)) (printed_number (2 ^ 64) work w (omega arith))
-    (bind_some (λ hyperperiod. Some (OverFull work hyperperiod)) (number_below (2 ^ 64) (decimal hyperperiod)) hyperperiod (Some (OverFull work hyperperiod)) (printed_number (2 ^ 64) hyperperiod h (omega arith)) refl) in
+    bind_some (λ work. option_and_then (λ hyperperiod. Some (OverFull work hyperperiod)) (number_within 0 (2 ^ 64 - 1) (decimal hyperperiod))) (number_within 0 (2 ^ 64 - 1) (decimal work)) work (Some (OverFull work hyperperiod)) (printed_numbers_are_read 0 (2 ^ 64 - 1) work (omega arith) (omega arith) (omega arith))
+    (bind_some (λ hyperperiod. Some (OverFull work hyperperiod)) (number_within 0 (2 ^ 64 - 1) (decimal hyperperiod)) hyperperiod (Some (OverFull work hyperperiod)) (printed_numbers_are_read 0 (2 ^ 64 - 1) hyperperiod (omega arith) (omega arith) (omega arith)) refl) in
     let rest : List ℕ = decimal work ++ 32 ∷ decimal hyperperiod in
     let level : level_said (codes "none") (codes "overfull" ++ 32 ∷ rest) ≡ Some (OverFull work hyperperiod) =
     bind_some reason_in (cut 32 (codes "overfull" ++ 32 ∷ rest)) (codes "overfull", rest) (Some (OverFull work hyperperiod)) (cut_at 32 (codes "overfull") rest (lacks_literal 32 (codes "overfull") refl))
@@ -159,7 +161,7 @@ unfolding beyond_text
 beyond_line name peak good p =
     let level : level_said (codes "none") (codes "beyondcap" ++ 32 ∷ decimal peak) ≡ Some (BeyondCap peak) =
     bind_some reason_in (cut 32 (codes "beyondcap" ++ 32 ∷ decimal peak)) (codes "beyondcap", decimal peak) (Some (BeyondCap peak)) (cut_at 32 (codes "beyondcap") (decimal peak) (lacks_literal 32 (codes "beyondcap") refl))
-    (ap (option_map BeyondCap) (printed_number (2 ^ 64) peak p (omega arith))) in
+    (ap (option_map BeyondCap) (printed_numbers_are_read 0 (2 ^ 64 - 1) peak (omega arith) (omega arith) (omega arith))) in
     let shape = assoc_of_4 (codes "none ") name (codes " beyondcap ") (decimal peak) in
     record {
       said = ap line_said shape ∙ said_is (codes "none") name (codes "beyondcap" ++ 32 ∷ decimal peak) (BeyondCap peak) (lacks_literal 32 (codes "none") refl) good level;

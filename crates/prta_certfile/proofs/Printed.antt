@@ -1,10 +1,11 @@
 -- Bytes that are read are the text of what is read.
-use Rattle.std.proofs.Common.{◌≡◌, ℕ, suc, ◌+◌, ◌^◌, ◌<◌, Bool, true, false, not, nat_eq, nat_lt, if◌then◌else◌, Option, Some, None, List, [], ◌∷◌, ◌++◌, length, map, flat_map, codes, decimal, bytes_eq, option_map, option_and_then, All, refl, ap, ap₂, sym, ◌∙◌, subst, arith, inl, inr, append_assoc, append-nil, eqb-true}
+use Rattle.std.proofs.Common.{◌≡◌, ℕ, suc, ◌+◌, ◌-◌, ◌^◌, ◌<◌, Bool, true, false, not, nat_eq, nat_lt, if◌then◌else◌, Option, Some, None, List, [], ◌∷◌, ◌++◌, length, map, flat_map, codes, decimal, bytes_eq, option_map, option_and_then, All, refl, ap, ap₂, sym, ◌∙◌, subst, arith, inl, inr, append_assoc, append-nil, eqb-true}
 use Rattle.std.specs.Option.{unwrap_or}
 use Rattle.std.specs.List.{join_with_byte}
 use Rattle.std.proofs.lemmas.List.{nil_from_length}
 use Rattle.std.proofs.lemmas.List.Elements.{All-nil, All-cons}
 use Rattle.std.proofs.lemmas.List.Splits.{join_with_byte-slice_split, length-slice_split}
+use Rattle.prta_number.specs.Decimal.{number_within}
 use Rattle.prta_mass.specs.Unit.{unit}
 use Rattle.prta_mass.specs.Table.{or_else, when}
 use Rattle.prta_sheet.specs.Sheet.{Task}
@@ -15,7 +16,7 @@ use Rattle.prta_certfile.specs.declared.fault.CertFault.{CertFault}
 use Rattle.prta_certfile.specs.declared.fault.CertFault.TheVariants.{TooLong, BadLine, WrongTask}
 use Rattle.prta_certfile.specs.declared.limits.TheConstants.{CERT_LIMIT}
 use Rattle.prta_certfile.specs.Text.{title, level_head, pair_text, overfull_text, beyond_text, level_text, level_lines, cert_text}
-use Rattle.prta_certfile.specs.Reading.{cut, words, number_below, step_in, step_said, steps_said, overfull_in, reason_in, level_said, named_in, line_said, level_fault, said_fault, line_fault, in_line, end_fault, lines_fault, title_fault, level_of, levels_in, levels_of}
+use Rattle.prta_certfile.specs.Reading.{cut, words, step_in, step_said, steps_said, overfull_in, reason_in, level_said, named_in, line_said, level_fault, said_fault, line_fault, in_line, end_fault, lines_fault, title_fault, level_of, levels_in, levels_of}
 use Rattle.prta_certfile.specs.Laws.{IsLevel, ReadTextsArePrinted}
 use Rattle.prta_certfile.proofs.Cuts.{IsCut, cut_found, option_cases}
 use Rattle.prta_certfile.proofs.Faults.{first_none, next_none, passes, same_bytes, steps_faultless}
@@ -62,11 +63,11 @@ step_printed : (word : List ℕ) (step : ℕ × ℕ) → step_said word ≡ Some
 step_printed word step e =
     let parts = chained step_in (cut 58 word) step e in
     let at : IsCut 58 word parts.first.0 parts.first.1 = cut_found 58 word parts.first.0 parts.first.1 parts.is in
-    let place = chained (λ place. option_and_then (λ value. Some (place, value)) (number_below (unit + 1) parts.first.1)) (number_below (2 ^ 32) parts.first.0) step parts.next in
-    let value = chained (λ value. Some (place.first, value)) (number_below (unit + 1) parts.first.1) step place.next in
+    let place = chained (λ place. option_and_then (λ value. Some (place, value)) (number_within 0 unit parts.first.1)) (number_within 0 (2 ^ 32 - 1) parts.first.0) step parts.next in
+    let value = chained (λ value. Some (place.first, value)) (number_within 0 unit parts.first.1) step place.next in
     let same : (place.first, value.first) ≡ step = some_same (place.first, value.first) step value.next in
-    let p : IsNumber (2 ^ 32) parts.first.0 place.first = read_number (2 ^ 32) parts.first.0 place.first (omega arith) place.is in
-    let v : IsNumber (unit + 1) parts.first.1 value.first = read_number (unit + 1) parts.first.1 value.first (omega arith) value.is in
+    let p : IsNumber (2 ^ 32 - 1) parts.first.0 place.first = read_number (2 ^ 32 - 1) parts.first.0 place.first (omega arith) place.is in
+    let v : IsNumber unit parts.first.1 value.first = read_number unit parts.first.1 value.first (omega arith) value.is in
     sym (ap pair_word same) ∙ ap₂ (λ (a b : List ℕ). a ++ 58 ∷ b) p.printed v.printed ∙ sym at.whole
 
 steps_printed : (ws : List (List ℕ)) (steps : List (ℕ × ℕ)) → steps_said ws ≡ Some steps → map pair_word steps ≡ ws
@@ -115,28 +116,28 @@ unfolding overfull_text
 overfull_line name kind rest after level is reason e =
     let parts = chained overfull_in (cut 32 after) level e in
     let at : IsCut 32 after parts.first.0 parts.first.1 = cut_found 32 after parts.first.0 parts.first.1 parts.is in
-    let work = chained (λ work. option_and_then (λ hyperperiod. Some (OverFull work hyperperiod)) (number_below (2 ^ 64) parts.first.1)) (number_below (2 ^ 64) parts.first.0) level parts.next in
-    let hyper = chained (λ hyperperiod. Some (OverFull work.first hyperperiod)) (number_below (2 ^ 64) parts.first.1) level work.next in
-    let w : IsNumber (2 ^ 64) parts.first.0 work.first = read_number (2 ^ 64) parts.first.0 work.first (omega arith) work.is in
-    let h : IsNumber (2 ^ 64) parts.first.1 hyper.first = read_number (2 ^ 64) parts.first.1 hyper.first (omega arith) hyper.is in
+    let work = chained (λ work. option_and_then (λ hyperperiod. Some (OverFull work hyperperiod)) (number_within 0 (2 ^ 64 - 1) parts.first.1)) (number_within 0 (2 ^ 64 - 1) parts.first.0) level parts.next in
+    let hyper = chained (λ hyperperiod. Some (OverFull work.first hyperperiod)) (number_within 0 (2 ^ 64 - 1) parts.first.1) level work.next in
+    let w : IsNumber (2 ^ 64 - 1) parts.first.0 work.first = read_number (2 ^ 64 - 1) parts.first.0 work.first (omega arith) work.is in
+    let h : IsNumber (2 ^ 64 - 1) parts.first.1 hyper.first = read_number (2 ^ 64 - 1) parts.first.1 hyper.first (omega arith) hyper.is in
     let same : OverFull work.first hyper.first ≡ level = some_same (OverFull work.first hyper.first) level hyper.next in
     let written : decimal work.first ++ 32 ∷ decimal hyper.first ≡ after = ap₂ (λ (a b : List ℕ). a ++ 32 ∷ b) w.printed h.printed ∙ sym at.whole in
     let printed : level_text name (OverFull work.first hyper.first) ≡ kind ++ 32 ∷ (name ++ 32 ∷ rest) =
     assoc_of_6 (codes "none ") name (codes " overfull ") (decimal work.first) (codes " ") (decimal hyper.first)
     ∙ ap (λ (bs : List ℕ). codes "none " ++ (name ++ (codes " overfull " ++ bs))) written
     ∙ ap₂ (λ (k r : List ℕ). k ++ 32 ∷ (name ++ 32 ∷ r)) (sym is) (sym reason) in
-    subst (IsPrinted name kind rest) same (record { text = printed; numbers = (w.small, h.small) })
+    subst (IsPrinted name kind rest) same (record { text = printed; numbers = (omega (arith, w.small), omega (arith, h.small)) })
 
-beyond_line : (name kind rest after : List ℕ) (level : CertLevel) → kind ≡ codes "none" → rest ≡ codes "beyondcap" ++ 32 ∷ after → option_map BeyondCap (number_below (2 ^ 64) after) ≡ Some level → IsPrinted name kind rest level
+beyond_line : (name kind rest after : List ℕ) (level : CertLevel) → kind ≡ codes "none" → rest ≡ codes "beyondcap" ++ 32 ∷ after → option_map BeyondCap (number_within 0 (2 ^ 64 - 1) after) ≡ Some level → IsPrinted name kind rest level
 unfolding beyond_text
 beyond_line name kind rest after level is reason e =
-    let peak = mapped BeyondCap (number_below (2 ^ 64) after) level e in
-    let p : IsNumber (2 ^ 64) after peak.first = read_number (2 ^ 64) after peak.first (omega arith) peak.is in
+    let peak = mapped BeyondCap (number_within 0 (2 ^ 64 - 1) after) level e in
+    let p : IsNumber (2 ^ 64 - 1) after peak.first = read_number (2 ^ 64 - 1) after peak.first (omega arith) peak.is in
     let printed : level_text name (BeyondCap peak.first) ≡ kind ++ 32 ∷ (name ++ 32 ∷ rest) =
     assoc_of_4 (codes "none ") name (codes " beyondcap ") (decimal peak.first)
     ∙ ap (λ (bs : List ℕ). codes "none " ++ (name ++ (codes " beyondcap " ++ bs))) p.printed
     ∙ ap₂ (λ (k r : List ℕ). k ++ 32 ∷ (name ++ 32 ∷ r)) (sym is) (sym reason) in
-    subst (IsPrinted name kind rest) peak.made (record { text = printed; numbers = p.small })
+    subst (IsPrinted name kind rest) peak.made (record { text = printed; numbers = omega (arith, p.small) })
 
 -- the answers of a choice
 choose : {A : Type 0} (t : Bool) (a b : Option A) (y : A) (P : Type 0) → (if t then a else b) ≡ Some y → (t ≡ true → a ≡ Some y → P) → (b ≡ Some y → P) → P
@@ -150,9 +151,9 @@ reason_line name kind rest level is e =
     let after : List ℕ = parts.first.1 in
     let at : IsCut 32 rest why after = cut_found 32 rest why after parts.is in
     let is_why : (word : List ℕ) → bytes_eq why word ≡ true → rest ≡ word ++ 32 ∷ after = λ word t. at.whole ∙ ap (λ (w : List ℕ). w ++ 32 ∷ after) (same_bytes why word t) in
-    choose (bytes_eq why (codes "overfull")) (option_and_then overfull_in (cut 32 after)) (if bytes_eq why (codes "beyondcap") then option_map BeyondCap (number_below (2 ^ 64) after) else None) level (IsPrinted name kind rest level) parts.next
+    choose (bytes_eq why (codes "overfull")) (option_and_then overfull_in (cut 32 after)) (if bytes_eq why (codes "beyondcap") then option_map BeyondCap (number_within 0 (2 ^ 64 - 1) after) else None) level (IsPrinted name kind rest level) parts.next
     (λ t h. overfull_line name kind rest after level is (is_why (codes "overfull") t) h)
-    (λ h. let other = held (bytes_eq why (codes "beyondcap")) (option_map BeyondCap (number_below (2 ^ 64) after)) level h in
+    (λ h. let other = held (bytes_eq why (codes "beyondcap")) (option_map BeyondCap (number_within 0 (2 ^ 64 - 1) after)) level h in
     beyond_line name kind rest after level is (is_why (codes "beyondcap") other.test) other.is)
 
 level_line : (name kind rest : List ℕ) (level : CertLevel) → level_said kind rest ≡ Some level → IsPrinted name kind rest level

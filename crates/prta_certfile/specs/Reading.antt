@@ -1,7 +1,7 @@
 -- How bytes are read as a certificate, and the first fault.
-use Rattle.std.specs.Prelude.{◌≡◌, ◌≢◌, ℕ, ◌+◌, ◌-◌, ◌*◌, ◌^◌, Bool, true, not, ◌&&◌, ◌||◌, nat_eq, nat_lt, nat_le, if◌then◌else◌, Option, Some, None, unwrap_or, option_map, Result, Ok, Err, List, [], ◌∷◌, length, fold, slice_index, codes, bytes_eq}
-use Rattle.std.specs.Char.{is_ascii_digit}
+use Rattle.std.specs.Prelude.{◌≡◌, ◌≢◌, ℕ, ◌+◌, ◌-◌, ◌^◌, Bool, true, not, ◌&&◌, nat_eq, nat_lt, nat_le, if◌then◌else◌, Option, Some, None, unwrap_or, option_map, Result, Ok, Err, List, [], ◌∷◌, length, codes, bytes_eq}
 use Rattle.std.specs.List.{list_all, slice_split}
+use Rattle.prta_number.specs.Decimal.{number_within}
 use Rattle.prta_mass.specs.Table.{or_else, when}
 use Rattle.prta_mass.specs.Unit.{unit}
 use Rattle.prta_sheet.specs.Sheet.{Task}
@@ -36,25 +36,11 @@ at_colon word = cut 58 word
 abbrev pub words : List ℕ → List (List ℕ)
 words text = slice_split (λ b. nat_eq b 32) text
 
--- ---- numbers
-
--- the number that decimal digits write
-abbrev pub value_of : List ℕ → ℕ
-value_of digits = fold (λ value digit. value * 10 + (digit - 48)) 0 digits
-
--- decimal digits, at least one, of which the first is no 0 unless it stands alone
-abbrev pub is_decimal : List ℕ → Bool
-is_decimal text = list_all is_ascii_digit text && (nat_lt 0 (length text) && (nat_eq (length text) 1 || not (nat_eq (slice_index text 0) 48)))
-
--- the number that a text writes in decimal, where it writes one below the limit
-abbrev pub number_below : ℕ → List ℕ → Option ℕ
-number_below limit text = if is_decimal text && nat_lt (value_of text) limit then Some (value_of text) else None
-
 -- ---- a line
 
 -- PLACE:VALUE
 abbrev pub step_in : List ℕ × List ℕ → Option (ℕ × ℕ)
-step_in parts = number_below (2 ^ 32) parts.0 >>= (λ place. number_below (unit + 1) parts.1 >>= (λ value. Some (place, value)))
+step_in parts = number_within 0 (2 ^ 32 - 1) parts.0 >>= (λ place. number_within 0 unit parts.1 >>= (λ value. Some (place, value)))
 
 abbrev pub step_said : List ℕ → Option (ℕ × ℕ)
 step_said word = at_colon word >>= step_in
@@ -66,13 +52,13 @@ steps_said (word ∷ rest) = step_said word >>= (λ step. steps_said rest >>= (�
 
 -- WORK HYPERPERIOD
 abbrev pub overfull_in : List ℕ × List ℕ → Option CertLevel
-overfull_in parts = number_below (2 ^ 64) parts.0 >>= (λ work. number_below (2 ^ 64) parts.1 >>= (λ hyperperiod. Some (OverFull work hyperperiod)))
+overfull_in parts = number_within 0 (2 ^ 64 - 1) parts.0 >>= (λ work. number_within 0 (2 ^ 64 - 1) parts.1 >>= (λ hyperperiod. Some (OverFull work hyperperiod)))
 
 -- overfull WORK HYPERPERIOD, or beyondcap PEAK
 abbrev pub reason_in : List ℕ × List ℕ → Option CertLevel
 reason_in parts =
     if bytes_eq parts.0 (codes "overfull") then first_word parts.1 >>= overfull_in
-    else if bytes_eq parts.0 (codes "beyondcap") then option_map BeyondCap (number_below (2 ^ 64) parts.1)
+    else if bytes_eq parts.0 (codes "beyondcap") then option_map BeyondCap (number_within 0 (2 ^ 64 - 1) parts.1)
     else None
 
 -- what stands after the name: steps after `level`, a reason after `none`

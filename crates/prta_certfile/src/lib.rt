@@ -9,7 +9,6 @@ mod laws;
 mod level;
 mod limits;
 mod line;
-mod number;
 mod reading;
 mod said;
 mod steps;

@@ -1,18 +1,15 @@
 //! What the line of a task says of its level.
 
-ghost use Rattle.std.specs.Prelude.{◌≡◌, ◌^◌, option_map, option_and_then, IfOk};
-ghost use Rattle.prta_certfile.specs.Reading.{step_in, step_said, steps_said, words, first_word, overfull_in, reason_in, level_said, number_below as number_in};
+ghost use Rattle.std.specs.Prelude.{◌≡◌, ◌-◌, ◌^◌, option_map, option_and_then, IfOk};
+ghost use Rattle.prta_certfile.specs.Reading.{step_in, step_said, steps_said, words, first_word, overfull_in, reason_in, level_said};
+ghost use Rattle.prta_number.specs.Decimal.{number_within};
 ghost use Rattle.prta_certfile.specs.Parts.{level_from};
 ghost use Rattle.prta_certfile.specs.declared.level.CertLevel.TheVariants.{Steps, BeyondCap};
 
 use crate::cut::{cut, next_word};
-use crate::number::number_below;
 use prta_mass::{NoMemory, UNIT};
+use prta_number::number_within;
 use std::alloc::Global;
-
-const PLACES: u128 = 1 << 32;
-
-const NUMBERS: u128 = 1 << 64;
 
 // A level whose steps needn't rise.
 #[derive(Drop)]
@@ -73,8 +70,8 @@ fn read_pair(word: &[u8]) -> Option<(u32, u64)>
 fn read_step(place: &[u8], value: &[u8]) -> Option<(u32, u64)>
     ensures { result ≡ step_in (place.now, value.now) }
 {
-    match number_below(place, PLACES) {
-        Some(place) => match number_below(value, UNIT as u128 + 1) {
+    match number_within(place, 0, u32::MAX as u64) {
+        Some(place) => match number_within(value, 0, UNIT) {
             Some(value) => Some((place as u32, value)),
             None => None,
         },
@@ -115,8 +112,8 @@ fn read_overfull(text: &[u8]) -> Option<Said>
 fn read_two(work: &[u8], hyperperiod: &[u8]) -> Option<Said>
     ensures { option_map level_from result ≡ overfull_in (work.now, hyperperiod.now) }
 {
-    match number_below(work, NUMBERS) {
-        Some(work) => match number_below(hyperperiod, NUMBERS) {
+    match number_within(work, 0, u64::MAX) {
+        Some(work) => match number_within(hyperperiod, 0, u64::MAX) {
             Some(hyperperiod) => Some(Said::OverFull { work, hyperperiod }),
             None => None,
         },
@@ -125,9 +122,9 @@ fn read_two(work: &[u8], hyperperiod: &[u8]) -> Option<Said>
 }
 
 fn read_beyond(text: &[u8]) -> Option<Said>
-    ensures { option_map level_from result ≡ option_map BeyondCap (number_in (2 ^ 64) text.now) }
+    ensures { option_map level_from result ≡ option_map BeyondCap (number_within 0 (2 ^ 64 - 1) text.now) }
 {
-    match number_below(text, NUMBERS) {
+    match number_within(text, 0, u64::MAX) {
         Some(peak) => Some(Said::BeyondCap { peak }),
         None => None,
     }

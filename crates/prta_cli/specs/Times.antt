@@ -4,7 +4,8 @@ use Rattle.std.specs.Str.Lines.{lines}
 use Rattle.prta_mass.specs.Table.{or_else, when}
 use Rattle.prta_sheet.specs.Sheet.{Sheet}
 use Rattle.prta_sheet.specs.Job.{analysed_jobs}
-use Rattle.prta_ticksim.specs.Choices.{value_of, bad_line}
+use Rattle.prta_number.specs.Decimal.{value_of}
+use Rattle.prta_ticksim.specs.Choices.{bad_line}
 use Rattle.prta_ticksim.specs.Start.{first_foreign}
 use Rattle.prta_cli.specs.declared.times.TimesFault.{TimesFault}
 use Rattle.prta_cli.specs.declared.times.TimesFault.TheVariants.{TooLong, BadLine, WrongCount, NotInTable}

@@ -6,7 +6,8 @@ use Rattle.std.proofs.Math.Seq.{drop-cons}
 use Rattle.std.proofs.lemmas.Bool.{cases_Bool, ne_eqb, not_from_true}
 use Rattle.std.proofs.lemmas.List.{take_all, length-drop}
 use Rattle.std.proofs.lemmas.List.Splits.{slice_split_first, slice_split_none, length-slice_split}
-use Rattle.prta_ticksim.specs.Choices.{is_number, value_of, number_of, bad_line}
+use Rattle.prta_number.specs.Decimal.{value_of}
+use Rattle.prta_ticksim.specs.Choices.{is_number, number_of, bad_line}
 use Rattle.prta_ticksim.proofs.Positions.{position_here, position_nowhere, position_found, nowhere_fails}
 
 -- ---- the first line

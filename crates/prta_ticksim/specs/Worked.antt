@@ -7,7 +7,8 @@ use Rattle.prta_sheet.specs.Job.{analysed_jobs}
 use Rattle.prta_sheet.specs.Worked.{task, pair_sheet}
 use Rattle.prta_ticksim.specs.Machine.{MachineParts, state_after, running}
 use Rattle.prta_ticksim.specs.Start.{machine_of, first_foreign}
-use Rattle.prta_ticksim.specs.Choices.{value_of, bad_line}
+use Rattle.prta_number.specs.Decimal.{value_of}
+use Rattle.prta_ticksim.specs.Choices.{bad_line}
 
 -- a task of period 4 above a task of period 8, in the sheet's order: of their jobs, the first of each is released at 0, and the second of
 -- the first task at 4

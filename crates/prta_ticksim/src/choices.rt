@@ -1,11 +1,12 @@
 //! The file of choices: one time for each job.
 
 ghost use Rattle.std.specs.Prelude.{◌≡◌};
-ghost use Rattle.prta_ticksim.specs.Choices.{IsChoicesAnswer};
+ghost use Rattle.prta_ticksim.specs.Choices.{number_of, IsChoicesAnswer};
 ghost use Rattle.prta_ticksim.specs.declared.choices.ChoicesFault.TheVariants.{NoMemory};
 
 use crate::line::first_line;
-use crate::number::number_of;
+use prta_number::number_within;
+use prta_sheet::TIME_LIMIT;
 use std::alloc::{AllocFailed, Global};
 use std::marker::Model;
 use thiserror::Error;
@@ -71,4 +72,14 @@ pub fn read_choices(alloc: Global, bytes: &[u8]) -> Result<Choices, ChoicesFault
         rest = after;
     }
     Ok(Choices { numbers })
+}
+
+// The time that a line writes, from 1 to the limit of times.
+fn number_of(line: &[u8]) -> Option<u32>
+    ensures { result ≡ number_of line.now }
+{
+    match number_within(line, 1, TIME_LIMIT as u64) {
+        Some(number) => Some(number as u32),
+        None => None,
+    }
 }

@@ -7,7 +7,6 @@ mod fault;
 mod line;
 mod machine;
 mod model;
-mod number;
 mod run;
 mod schedule;
 mod serving;

@@ -2,7 +2,8 @@ use Rattle.std.proofs.Common.{◌≡◌, ℕ, true, [], ◌∷◌, ◌++◌, Lis
 use Rattle.std.specs.Str.Lines.{lines}
 use Rattle.std.proofs.lemmas.Bool.{eqb-true}
 use Rattle.std.proofs.lemmas.List.{map_more}
-use Rattle.prta_ticksim.specs.Choices.{is_number, value_of}
+use Rattle.prta_number.specs.Decimal.{value_of}
+use Rattle.prta_ticksim.specs.Choices.{is_number}
 use Rattle.prta_ticksim.proofs.FirstLines.{IsNext, next_line, bad_at, none_bad, all_values, number_tells, no_number_tells, no_lines}
 use Rattle.prta_ticksim.proofs.choices.read_choices.Goals as goal
 

@@ -1,7 +1,8 @@
 -- the lines so far are numbers, and these are their values
 use Rattle.std.proofs.Common.{◌≡◌, ℕ, ◌+◌, ◌<◌, ◌≤◌, true, [], length, take, drop, map, get_or}
 use Rattle.std.specs.Str.Lines.{lines}
-use Rattle.prta_ticksim.specs.Choices.{is_number, value_of}
+use Rattle.prta_number.specs.Decimal.{value_of}
+use Rattle.prta_ticksim.specs.Choices.{is_number}
 use Rattle.prta_ticksim.proofs.choices.read_choices.Given as goal
 
 abbrev pub invariant-loop-rest : goal.invariant-loop-rest

@@ -1,7 +1,0 @@
--- the value of the digits so far
-use Rattle.std.proofs.Common.{◌≡◌, min, take}
-use Rattle.prta_certfile.specs.Reading.{value_of}
-use Rattle.prta_certfile.proofs.number.capped_value.Given as goal
-
-abbrev pub invariant-loop-digit : goal.invariant-loop-digit
-invariant-loop-digit l = l.value ≡ min (value_of (take l.digit-index l.digits)) l.limit

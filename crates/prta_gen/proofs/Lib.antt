@@ -1,0 +1,9 @@
+pub mod States
+pub mod Periods
+pub mod Points
+pub mod Names
+pub mod Tasks
+pub mod Sums
+pub mod Jobs
+pub mod Works
+pub mod Accepted
