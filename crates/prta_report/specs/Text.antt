@@ -26,6 +26,15 @@ job_line name number release deadline bounds =
 abbrev pub line_of_job : List Task → Job → Bounds → List ℕ
 line_of_job tasks job bounds = job_line (task_at tasks job.task).name job.number job.release (deadline_of tasks job) bounds
 
+-- the same as a record of six fields, none of which needs quotes
+unfoldable pub csv_line : List ℕ → ℕ → ℕ → ℕ → Bounds → List ℕ
+csv_line name number release deadline bounds =
+    name ++ codes "," ++ decimal number ++ codes "," ++ decimal release ++ codes "," ++ decimal deadline
+    ++ codes "," ++ decimal bounds.lower ++ codes "," ++ decimal bounds.upper ++ codes "\n"
+
+abbrev pub record_of_job : List Task → Job → Bounds → List ℕ
+record_of_job tasks job bounds = csv_line (task_at tasks job.task).name job.number job.release (deadline_of tasks job) bounds
+
 abbrev pub dir_text : Dir → List ℕ
 dir_text Up = codes "up"
 dir_text Down = codes "down"
@@ -61,6 +70,15 @@ no_line name number upper allow =
 
 abbrev pub line_of_no : List Task → Job → ℕ → List ℕ
 line_of_no tasks job upper = let task = task_at tasks job.task in no_line task.name job.number upper task.allow
+
+-- how much an analysis of a whole sheet is
+unfoldable pub size_line : ℕ → ℕ → ℕ → ℕ → List ℕ
+size_line tasks jobs entries certified =
+    codes "tasks " ++ decimal tasks ++ codes " jobs " ++ decimal jobs ++ codes " entries " ++ decimal entries ++ codes " certified " ++ decimal certified ++ codes "\n"
+
+-- the sums of all lower and of all upper numbers
+unfoldable pub sums_line : ℕ → ℕ → List ℕ
+sums_line lower upper = codes "lower " ++ decimal lower ++ codes " upper " ++ decimal upper ++ codes "\n"
 
 -- a level whose list certifies it, and one for which no list is stated
 unfoldable pub certified_line : List ℕ → List ℕ

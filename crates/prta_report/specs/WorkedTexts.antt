@@ -1,7 +1,7 @@
--- Worked texts of `analyse`, `ledger` and `check`.
+-- Worked texts of `analyse`, `ledger`, `check` and `bench`.
 use Rattle.std.specs.Prelude.{◌≡◌, ℕ, None, List, [], ◌∷◌, ◌++◌, codes}
 use Rattle.prta_sheet.specs.Sheet.{Task, Sheet}
-use Rattle.prta_report.specs.Analysis.{analyse_text, ledger_text, check_text}
+use Rattle.prta_report.specs.Analysis.{analyse_text, csv_text, ledger_text, check_text, bench_text}
 use Rattle.prta_report.specs.WorkedTraces.{named}
 
 abbrev pub capped : ℕ → List Task → Sheet
@@ -22,6 +22,10 @@ pub record WorkedTexts : Type 0 where
       ++ codes "hyperperiod 10 jobs 1\n"
       ++ codes "job A 0 release 0 deadline 5 lower 288230376151711744 0.250000000000 upper 288230376151711744 0.250000000000\n"
       ++ codes "end\n"
+  -- the same for a spreadsheet
+  pub records : csv_text (alone 3 (0, 1)) ≡
+      codes "task,job,release,deadline,lower,upper\n"
+      ++ codes "A,0,0,5,288230376151711744,288230376151711744\n"
   -- a task's entries before its sums, Up before Down, and a delay after the additions before it
   pub delayed : ledger_text delayed ≡
       codes "prta ledger 1\n"
@@ -32,6 +36,12 @@ pub record WorkedTexts : Type 0 where
       ++ codes "entry up round B 0 1 1\n" ++ codes "entry up delay B 0 1 1\n"
       ++ codes "entry down round B 0 1 1\n" ++ codes "entry down round B 0 2 1\n" ++ codes "entry down delay B 0 1 1\n"
       ++ codes "gap B 0 lower 64051194700380387 upper 64051194700380388 sum 5\n"
+      ++ codes "end\n"
+  -- one rounding in each direction
+  pub amounts : bench_text (alone 9 (0, 1)) ≡
+      codes "prta bench 1\n"
+      ++ codes "tasks 1 jobs 1 entries 2 certified 1\n"
+      ++ codes "lower 115292150460684697 upper 115292150460684698\n"
       ++ codes "end\n"
   -- the upper number is rounded up, just past the allowance
   pub fails : check_text (alone 9 (1, 10)) ≡ codes "prta check 1\n" ++ codes "no A 0 upper 115292150460684698 allow 1 10\n"

@@ -6,7 +6,7 @@ ghost use Rattle.prta_mass.specs.Decimal.{decimal_below, decimal_above};
 ghost use Rattle.prta_sheet.specs.Sheet.{hyperperiod};
 ghost use Rattle.prta_sheet.specs.Job.{nth_job};
 ghost use Rattle.prta_sheet.specs.Counts.{all_jobs};
-ghost use Rattle.prta_report.specs.Text.{count_line, job_line, entry_line, gap_line, no_line, dir_text, kind_text, line_of_job, line_of_entry, line_of_gap, line_of_no};
+ghost use Rattle.prta_report.specs.Text.{count_line, job_line, csv_line, record_of_job, entry_line, gap_line, no_line, dir_text, kind_text, line_of_job, line_of_entry, line_of_gap, line_of_no};
 
 use crate::number::{push_number, push_sum};
 use crate::page::{LINE, Page};
@@ -82,6 +82,55 @@ fn push_job(page: &mut Page, name: &str, number: u32, release: u64, deadline: u6
     push_number(page, deadline);
     push_lower(page, bounds.lower);
     push_upper(page, bounds.upper);
+    page.push(b"\n");
+}
+
+/// Appends the same as a record of comma-separated fields: the task's name, the job's number, its release and absolute
+/// deadline in ticks, and its two numbers in units of 2^-60. No field needs quotes.
+pub fn csv_line(page: &mut Page, sheet: &Sheet, task: usize, number: u32, bounds: Bounds)
+    requires room { LINE ≤ page.old.spare }
+    requires task { task < length sheet.now.tasks }
+    ensures written { page.new.written ≡ page.old.written ++ record_of_job sheet.now.tasks (nth_job sheet.now.tasks task number) bounds }
+    ensures room { page.old.spare ≤ page.new.spare + LINE }
+    ensures size { length page.new.written + page.new.spare ≡ length page.old.written + page.old.spare }
+{
+    let release = release(sheet, task, number);
+    push_record(
+        page,
+        sheet.tasks()[task].name(),
+        number,
+        release,
+        release + sheet.tasks()[task].deadline() as u64,
+        bounds,
+    );
+}
+
+#[tactic(auto, unfolding(crate::specs::Text::csv_line))]
+fn push_record(
+    page: &mut Page,
+    name: &str,
+    number: u32,
+    release: u64,
+    deadline: u64,
+    bounds: Bounds,
+)
+    requires room { LINE ≤ page.old.spare }
+    requires name { length name.now ≤ 24 }
+    ensures written { page.new.written ≡ page.old.written ++ csv_line name.now number release deadline bounds }
+    ensures room { page.old.spare ≤ page.new.spare + LINE }
+    ensures size { length page.new.written + page.new.spare ≡ length page.old.written + page.old.spare }
+{
+    page.push(name.as_bytes());
+    page.push(b",");
+    push_number(page, number as u64);
+    page.push(b",");
+    push_number(page, release);
+    page.push(b",");
+    push_number(page, deadline);
+    page.push(b",");
+    push_number(page, bounds.lower);
+    page.push(b",");
+    push_number(page, bounds.upper);
     page.push(b"\n");
 }
 

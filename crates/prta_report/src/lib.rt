@@ -3,6 +3,7 @@
 
 mod analysis;
 mod assignment;
+mod bench;
 mod certificate;
 mod model;
 mod number;
@@ -11,8 +12,9 @@ mod run;
 #[cfg(test)]
 mod tests;
 
-pub use analysis::{count_line, entry_line, gap_line, job_line, no_line};
+pub use analysis::{count_line, csv_line, entry_line, gap_line, job_line, no_line};
 pub use assignment::{order_line, set_line};
+pub use bench::{size_line, sums_line};
 pub use certificate::{
     beyond_line, broken_line, certified_line, level_head, overfull_line, pair_text, steady_line,
     uncertified_line,

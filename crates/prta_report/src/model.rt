@@ -39,7 +39,7 @@ pub fn own_jobs_in_turn()
     ensures { OwnJobsInTurn }
 {}
 
-/// The texts of `analyse`, `ledger` and `check` for small sheets: numbers that are exact, rounded and delayed, and an upper
+/// The texts of `analyse`, `ledger`, `check` and `bench` for small sheets: numbers that are exact, rounded and delayed, and an upper
 /// number at its task's allowance and past it.
 pub fn worked_texts()
     ensures { WorkedTexts }

@@ -114,14 +114,18 @@ fn lines_of_runs(rt: HostRuntime) -> Result<(), Fail> {
     Ok(())
 }
 
-// A line of an analysis: the count of jobs, a job's numbers, an entry, a job's gap, or a job that doesn't pass.
+// A line of an analysis: the count of jobs, a job's numbers, also as a record, an entry, a job's gap, a job that doesn't pass,
+// how much there is of everything, and sums.
 #[derive(Drop)]
 enum Row {
     Count,
     Job(usize, u32, Bounds),
+    Record(usize, u32, Bounds),
     Entry(Entry),
     Gap(usize, u32, Bounds, u128),
     No(usize, u32, u64),
+    Size(u64, u64, u128, u64),
+    Sums(u128, u128),
 }
 
 const QUARTER: Bounds = Bounds {
@@ -136,7 +140,7 @@ const NEAR: Bounds = Bounds {
 
 const ZERO: Bounds = Bounds { lower: 0, upper: 0 };
 
-static ROWS: [(Row, &[u8]); 11] = [
+static ROWS: [(Row, &[u8]); 14] = [
     (Row::Count, b"hyperperiod 1000000 jobs 1001\n"),
     (
         Row::Job(0, 0, QUARTER),
@@ -145,6 +149,19 @@ static ROWS: [(Row, &[u8]); 11] = [
     (
         Row::Job(1, u32::MAX, NEAR),
         b"job log-2 4294967295 release 4294967295999999 deadline 4294967296000006 lower 64051194700380387 0.055555555555 upper 64051194700380388 0.055555555556\n",
+    ),
+    (
+        Row::Record(1, 2, NEAR),
+        b"log-2,2,2999999,3000006,64051194700380387,64051194700380388\n",
+    ),
+    (
+        Row::Size(12, 384, 7_345, 11),
+        b"tasks 12 jobs 384 entries 7345 certified 11\n",
+    ),
+    // Sums past 2^64.
+    (
+        Row::Sums(18_446_744_073_709_551_616, 36_893_488_147_419_103_232),
+        b"lower 18446744073709551616 upper 36893488147419103232\n",
     ),
     (
         Row::Entry(Entry {
@@ -219,6 +236,9 @@ fn page_of_row(alloc: Global, sheet: &Sheet, row: &Row) -> Result<Page, Fail> {
             if task < tasks && bounds.lower <= UNIT && bounds.upper <= UNIT => {
             job_line(&mut page, sheet, task, number, bounds)
         }
+        Row::Record(task, number, bounds) if task < tasks => {
+            csv_line(&mut page, sheet, task, number, bounds)
+        }
         Row::Entry(entry) if (entry.task as usize) < tasks => entry_line(&mut page, sheet, entry),
         Row::Gap(task, number, bounds, sum) if task < tasks => {
             gap_line(&mut page, sheet, task, number, bounds, sum)
@@ -226,6 +246,10 @@ fn page_of_row(alloc: Global, sheet: &Sheet, row: &Row) -> Result<Page, Fail> {
         Row::No(task, number, upper) if task < tasks => {
             no_line(&mut page, sheet, task, number, upper)
         }
+        Row::Size(tasks, jobs, entries, certified) => {
+            size_line(&mut page, tasks, jobs, entries, certified)
+        }
+        Row::Sums(lower, upper) => sums_line(&mut page, lower, upper),
         _ => {}
     }
     Ok(page)

@@ -12,3 +12,4 @@ pub mod StepRows
 pub mod FoundLevels
 pub mod LevelMeanings
 pub mod Stated
+pub mod AddedUp

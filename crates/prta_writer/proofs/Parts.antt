@@ -1,16 +1,17 @@
 -- Texts in parts.
-use Rattle.std.proofs.Common.{◌≡◌, ℕ, ◌+◌, ◌-◌, ◌≤◌, ◌++◌, length, length-append, Option, Result, Ok, Err, OnOk, OnErr, List, flat_map, codes, refl, ap, sym, ◌∙◌, subst, append_assoc, arith}
+use Rattle.std.proofs.Common.{◌≡◌, ℕ, ◌+◌, ◌-◌, ◌≤◌, ◌++◌, length, length-append, Option, Result, Ok, Err, OnOk, OnErr, List, flat_map, refl, ap, sym, ◌∙◌, subst, append_assoc, append-nil, arith}
 use Rattle.prta_sheet.specs.Sheet.{Sheet, sheet_order}
 use Rattle.prta_report.specs.Page.{PageParts}
-use Rattle.prta_writer.specs.Report.{head, rows, report_text}
+use Rattle.prta_writer.specs.Report.{head, rows, last_line, report_text}
 use Rattle.prta_writer.specs.Writing.{TookPart, TookAllBut}
 use Rattle.prta_writer.proofs.Taking.{more_put, longer, part_then, part_of_more}
 use Rattle.prta_writer.specs.declared.report.What.{What}
-use Rattle.prta_writer.specs.declared.report.What.TheVariants.{Analyse, Ledger, Certify}
+use Rattle.prta_writer.specs.declared.report.What.TheVariants.{Analyse, AnalyseCsv, Ledger, Certify}
 
 -- a report is what stands before the rows, the rows, and the last line
-pub in_parts : (what : What) (sheet : Sheet) → (head what sheet ++ flat_map (rows what sheet) (sheet_order sheet.tasks)) ++ codes "end\n" ≡ report_text what sheet
+pub in_parts : (what : What) (sheet : Sheet) → (head what sheet ++ flat_map (rows what sheet) (sheet_order sheet.tasks)) ++ last_line what ≡ report_text what sheet
 in_parts Analyse sheet = refl
+in_parts AnalyseCsv sheet = append-nil (head AnalyseCsv sheet ++ flat_map (rows AnalyseCsv sheet) (sheet_order sheet.tasks))
 in_parts Ledger sheet = refl
 in_parts Certify sheet = refl
 

@@ -8,22 +8,19 @@ use Rattle.prta_mass.specs.Unit.{unit}
 use Rattle.prta_sheet.specs.Sheet.{Sheet}
 use Rattle.prta_sheet.specs.Job.{Job, nth_job}
 use Rattle.prta_sheet.specs.Counts.{job_count}
-use Rattle.prta_backlog.specs.Level.{Level, sheet_level}
+use Rattle.prta_backlog.specs.Level.{Level}
 use Rattle.prta_backlog.specs.Room.{own_jobs}
 use Rattle.prta_dual.specs.declared.bounds.Bounds.{Bounds}
 use Rattle.prta_dual.specs.Numbers.{bounds_of, all_bounds}
-use Rattle.prta_dual.specs.Entries.{job_sum}
-use Rattle.prta_report.specs.Text.{line_of_job, line_of_gap}
+use Rattle.prta_writer.specs.declared.rows.JobLine.{JobLine}
+use Rattle.prta_writer.specs.Rows.{line_at}
 use Rattle.prta_writer.specs.Writing.{TookPart, TookAllBut}
 use Rattle.prta_writer.proofs.Taking.{more_put, longer, part_then, part_of_more}
 use Rattle.prta_report.proofs.Lines.{lines_more}
 
--- the rows of a job, by its number
-abbrev pub job_row : Sheet → ℕ → ℕ → List ℕ
-job_row sheet i n = line_of_job sheet.tasks (nth_job sheet.tasks i n) (bounds_of sheet (sheet_level i) n)
-
-abbrev pub gap_row : Sheet → ℕ → ℕ → List ℕ
-gap_row sheet i n = line_of_gap sheet.tasks (nth_job sheet.tasks i n) (bounds_of sheet (sheet_level i) n) (job_sum sheet (sheet_level i) (nth_job sheet.tasks i n))
+-- the line of a job, by its number
+abbrev pub job_row : JobLine → Sheet → ℕ → ℕ → List ℕ
+job_row line sheet i n = line_at line sheet (nth_job sheet.tasks i n)
 
 flat_map-of-map : {X Y : Type 0} (f : Y → List ℕ) (g : X → Y) (xs : List X) → flat_map f (map g xs) ≡ flat_map (λ x. f (g x)) xs
 flat_map-of-map f g [] = refl

@@ -1,7 +1,9 @@
 pub mod Writing
+pub mod Rows
 pub mod Report
 pub mod Checking
 pub mod Levels
 pub mod Verifying
 pub mod Meaning
 pub mod Assigning
+pub mod Amounts

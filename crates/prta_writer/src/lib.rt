@@ -1,6 +1,7 @@
 //! The texts of an accepted sheet, to a sink: reports row by row, and what is known of them before their first byte.
 #![tactic(auto)]
 
+mod amounts;
 mod assigning;
 mod bench;
 mod checking;
@@ -15,6 +16,7 @@ mod tests;
 mod trace;
 mod verifying;
 
+pub use amounts::write_bench;
 pub use assigning::assignment;
 pub use checking::write_check;
 pub use output::put_all;

@@ -6,7 +6,7 @@ ghost use Rattle.prta_sheet.specs.Counts.{job_count};
 ghost use Rattle.prta_outside.specs.Sink.{HasRisen};
 ghost use Rattle.prta_backlog.specs.Room.{room_for};
 ghost use Rattle.prta_response.specs.Fitting.{FitsCap};
-ghost use Rattle.prta_writer.specs.Report.{fits, head, rows, report_text, most_jobs};
+ghost use Rattle.prta_writer.specs.Report.{fits, head, rows, last_line, report_text, most_jobs};
 ghost use Rattle.prta_writer.specs.Meaning.{AreAround, AreClose, AreFound};
 ghost use Rattle.prta_writer.specs.Writing.{Took, TookPart, TookAllBut};
 
@@ -14,7 +14,7 @@ use crate::levels::put_level;
 use crate::meaning::{what_levels_are, what_numbers_mean};
 use crate::output::{make_room, put_all};
 use crate::room::{Desk, Room};
-use crate::rows::{analyse, put_gap_rows, put_job_rows};
+use crate::rows::{JobLine, analyse, put_gap_rows, put_job_rows};
 use prta_backlog::Bench;
 use prta_dist::{Curve, Kernel};
 use prta_outside::{Sink, SinkFault};
@@ -26,6 +26,8 @@ use prta_sheet::Sheet;
 pub enum What {
     /// The two numbers of every analysed job.
     Analyse,
+    /// The same as records for a spreadsheet.
+    AnalyseCsv,
     /// All entries, and for every analysed job both numbers and what its entries add up to.
     Ledger,
     /// A certificate: for every level a list that bounds what is left at the start of each hyperperiod, or why there is none.
@@ -56,7 +58,7 @@ pub fn write_report<O: Sink>(
     push_head(&mut desk.page, sheet, what);
     put_rows(bench, desk, sheet, what, out)?;
     make_room(&mut desk.page, out)?;
-    desk.page.push(b"end\n");
+    desk.page.push(last_line(what));
     put_all(out, desk.page.bytes())?;
     Ok(())
 }
@@ -72,11 +74,23 @@ fn push_head(page: &mut Page, sheet: &Sheet, what: What)
             page.push(b"prta analyse 1\n");
             count_line(page, sheet);
         }
+        What::AnalyseCsv => page.push(b"task,job,release,deadline,lower,upper\n"),
         What::Ledger => {
             page.push(b"prta ledger 1\n");
             count_line(page, sheet);
         }
         What::Certify => page.push(b"prta certificate 1\n"),
+    }
+}
+
+// What stands after the rows.
+fn last_line(what: What) -> &'static [u8]
+    ensures line { result.now ≡ last_line what }
+    ensures short { length result.now ≤ 4 }
+{
+    match what {
+        What::AnalyseCsv => b"",
+        What::Analyse | What::Ledger | What::Certify => b"end\n",
     }
 }
 
@@ -140,7 +154,11 @@ fn put_task<C: Curve, K: Kernel, O: Sink>(
     match what {
         What::Analyse => {
             analyse(bench, desk, sheet, task);
-            put_job_rows(desk, sheet, task, out)
+            put_job_rows(desk, sheet, task, JobLine::Numbers, out)
+        }
+        What::AnalyseCsv => {
+            analyse(bench, desk, sheet, task);
+            put_job_rows(desk, sheet, task, JobLine::Record, out)
         }
         What::Ledger => {
             analyse(bench, desk, sheet, task);

@@ -54,7 +54,7 @@ impl Model for Room {
     ghost invariant = { λ r. FitsCap (length r.bench.main) r.bench.main r.bench.spare r.bench.kept (vec_len r.bench.cells) (vec_len r.bench.tail) (vec_len r.bench.room)
         × (r.entries ≤ r.desk.ledger.room)
         × (vec_len r.steady ≡ vec_len r.desk.bounds)
-        × (2 * LINE ≤ length r.desk.page.written + r.desk.page.spare) };
+        × (3 * LINE ≤ length r.desk.page.written + r.desk.page.spare) };
 }
 
 impl Room {

@@ -1,15 +1,17 @@
 //! The rows of one task.
 
 ghost use Rattle.std.specs.Prelude.{◌≡◌, ◌+◌, ◌≤◌, ◌<◌, ◌++◌, [], OnOk, OnErr, length, vec_len, take, flat_map, All};
+ghost use Rattle.prta_sheet.specs.Job.{nth_job};
 ghost use Rattle.prta_sheet.specs.Counts.{job_count};
 ghost use Rattle.prta_outside.specs.Sink.{HasRisen};
 ghost use Rattle.prta_backlog.specs.Room.{room_for};
 ghost use Rattle.prta_response.specs.Fitting.{FitsCap};
-ghost use Rattle.prta_dual.specs.Numbers.{all_bounds};
+ghost use Rattle.prta_dual.specs.Numbers.{bounds_of, all_bounds};
 ghost use Rattle.prta_dual.specs.Entries.{entries};
 ghost use Rattle.prta_report.specs.Text.{line_of_entry};
 ghost use Rattle.prta_backlog.specs.Level.{sheet_level};
-ghost use Rattle.prta_report.specs.Analysis.{analyse_rows, gap_rows, ledger_rows};
+ghost use Rattle.prta_report.specs.Analysis.{ledger_rows};
+ghost use Rattle.prta_writer.specs.Rows.{line_at, job_rows};
 ghost use Rattle.prta_writer.specs.Writing.{TookPart, TookAllBut};
 
 use crate::output::make_room;
@@ -20,8 +22,19 @@ use prta_dual::{Bounds, analyse_task, entries_have_room};
 use prta_jobs::TaskSet;
 use prta_ledger::{Entry, Ledger};
 use prta_outside::{Sink, SinkFault};
-use prta_report::{LINE, Page, entry_line, gap_line, job_line, own_jobs_in_turn};
+use prta_report::{LINE, Page, csv_line, entry_line, gap_line, job_line, own_jobs_in_turn};
 use prta_sheet::Sheet;
+
+/// What the line of a job tells.
+#[derive(Clone, Copy)]
+pub enum JobLine {
+    /// Its two numbers.
+    Numbers,
+    /// The same as a record of fields.
+    Record,
+    /// Its two numbers, and what its entries add up to.
+    Gap,
+}
 
 /// Analyses a task below all tasks before it: the desk has its two numbers of each job, and just its entries.
 pub fn analyse<C: Curve, K: Kernel>(
@@ -75,26 +88,28 @@ fn analyse_into<C: Curve, K: Kernel>(
     analyse_task(bench, sheet, higher, task, ledger, &mut places[..count]);
 }
 
-/// Writes the rows of `analyse` for a task whose numbers are on the desk.
+/// Writes a line of a kind for each job of a task whose numbers and entries are on the desk.
 pub fn put_job_rows<O: Sink>(
     desk: &mut Desk,
     sheet: &Sheet,
     task: usize,
+    line: JobLine,
     out: &mut O,
 ) -> Result<(), SinkFault>
     requires task { task < length sheet.now.tasks }
     requires jobs { job_count sheet.now task ≤ vec_len desk.old.bounds }
     requires numbers { take (job_count sheet.now task) desk.old.bounds.items ≡ all_bounds sheet.now (sheet_level task) }
+    requires entries { desk.old.ledger.entries ≡ entries sheet.now (sheet_level task) }
     requires page { LINE ≤ length desk.old.page.written + desk.old.page.spare }
-    ensures took { OnOk result (TookAllBut (O.taken out.old) (O.taken out.new) (desk.old.page.written ++ analyse_rows sheet.now task) desk.new.page.written) }
+    ensures took { OnOk result (TookAllBut (O.taken out.old) (O.taken out.new) (desk.old.page.written ++ job_rows line sheet.now task) desk.new.page.written) }
     ensures fault { OnErr result (HasRisen (O.faults out.old) (O.faults out.new)) }
-    ensures part { OnErr result (TookPart (O.taken out.old) (O.taken out.new) (desk.old.page.written ++ analyse_rows sheet.now task)) }
+    ensures part { OnErr result (TookPart (O.taken out.old) (O.taken out.new) (desk.old.page.written ++ job_rows line sheet.now task)) }
     ensures never_falls { O.faults out.old ≤ O.faults out.new }
     ensures size { length desk.new.page.written + desk.new.page.spare ≡ length desk.old.page.written + desk.old.page.spare }
     ensures others { desk.new ≡ record desk.old { page = desk.new.page } }
 {
     let found = &desk.bounds[..sheet.job_count(task)];
-    put_jobs(&mut desk.page, sheet, task, found, out)
+    put_jobs(&mut desk.page, sheet, task, found, &desk.ledger, line, out)
 }
 
 /// Writes the rows of `ledger` for a task whose numbers and entries are on the desk.
@@ -118,33 +133,15 @@ pub fn put_gap_rows<O: Sink>(
 {
     let found = &desk.bounds[..sheet.job_count(task)];
     put_entries(&mut desk.page, sheet, desk.ledger.entries(), out)?;
-    put_gaps(&mut desk.page, sheet, task, found, &desk.ledger, out)?;
-    Ok(())
-}
-
-// A line for each job.
-fn put_jobs<O: Sink>(
-    page: &mut Page,
-    sheet: &Sheet,
-    task: usize,
-    found: &[Bounds],
-    out: &mut O,
-) -> Result<(), SinkFault>
-    requires task { task < length sheet.now.tasks }
-    requires numbers { found.now ≡ all_bounds sheet.now (sheet_level task) }
-    requires page { LINE ≤ length page.old.written + page.old.spare }
-    ensures took { OnOk result (TookAllBut (O.taken out.old) (O.taken out.new) (page.old.written ++ analyse_rows sheet.now task) page.new.written) }
-    ensures fault { OnErr result (HasRisen (O.faults out.old) (O.faults out.new)) }
-    ensures part { OnErr result (TookPart (O.taken out.old) (O.taken out.new) (page.old.written ++ analyse_rows sheet.now task)) }
-    ensures never_falls { O.faults out.old ≤ O.faults out.new }
-    ensures size { length page.new.written + page.new.spare ≡ length page.old.written + page.old.spare }
-{
-    let _tasks = sheet.tasks();
-    own_jobs_in_turn();
-    for number in 0..found.len() {
-        make_room(page, out)?;
-        job_line(page, sheet, task, number as u32, found[number]);
-    }
+    put_jobs(
+        &mut desk.page,
+        sheet,
+        task,
+        found,
+        &desk.ledger,
+        JobLine::Gap,
+        out,
+    )?;
     Ok(())
 }
 
@@ -170,22 +167,23 @@ fn put_entries<O: Sink>(
     Ok(())
 }
 
-// A line for each job, with what its entries add up to.
-fn put_gaps<O: Sink>(
+// A line of a kind for each job.
+fn put_jobs<O: Sink>(
     page: &mut Page,
     sheet: &Sheet,
     task: usize,
     found: &[Bounds],
     ledger: &Ledger,
+    line: JobLine,
     out: &mut O,
 ) -> Result<(), SinkFault>
     requires task { task < length sheet.now.tasks }
     requires numbers { found.now ≡ all_bounds sheet.now (sheet_level task) }
     requires entries { ledger.now.entries ≡ entries sheet.now (sheet_level task) }
     requires page { LINE ≤ length page.old.written + page.old.spare }
-    ensures took { OnOk result (TookAllBut (O.taken out.old) (O.taken out.new) (page.old.written ++ gap_rows sheet.now task) page.new.written) }
+    ensures took { OnOk result (TookAllBut (O.taken out.old) (O.taken out.new) (page.old.written ++ job_rows line sheet.now task) page.new.written) }
     ensures fault { OnErr result (HasRisen (O.faults out.old) (O.faults out.new)) }
-    ensures part { OnErr result (TookPart (O.taken out.old) (O.taken out.new) (page.old.written ++ gap_rows sheet.now task)) }
+    ensures part { OnErr result (TookPart (O.taken out.old) (O.taken out.new) (page.old.written ++ job_rows line sheet.now task)) }
     ensures never_falls { O.faults out.old ≤ O.faults out.new }
     ensures size { length page.new.written + page.new.spare ≡ length page.old.written + page.old.spare }
 {
@@ -193,8 +191,42 @@ fn put_gaps<O: Sink>(
     own_jobs_in_turn();
     for number in 0..found.len() {
         make_room(page, out)?;
-        let sum = ledger.sum_for(task, number as u32);
-        gap_line(page, sheet, task, number as u32, found[number], sum);
+        push_line(
+            page,
+            sheet,
+            task,
+            number as u32,
+            found[number],
+            ledger,
+            line,
+        );
     }
     Ok(())
+}
+
+// The line of a job.
+fn push_line(
+    page: &mut Page,
+    sheet: &Sheet,
+    task: usize,
+    number: u32,
+    bounds: Bounds,
+    ledger: &Ledger,
+    line: JobLine,
+)
+    requires room { LINE ≤ page.old.spare }
+    requires task { task < length sheet.now.tasks }
+    requires numbers { bounds ≡ bounds_of sheet.now (sheet_level task) number }
+    requires entries { ledger.now.entries ≡ entries sheet.now (sheet_level task) }
+    ensures written { page.new.written ≡ page.old.written ++ line_at line sheet.now (nth_job sheet.now.tasks task number) }
+    ensures size { length page.new.written + page.new.spare ≡ length page.old.written + page.old.spare }
+{
+    match line {
+        JobLine::Numbers => job_line(page, sheet, task, number, bounds),
+        JobLine::Record => csv_line(page, sheet, task, number, bounds),
+        JobLine::Gap => {
+            let sum = ledger.sum_for(task, number);
+            gap_line(page, sheet, task, number, bounds, sum);
+        }
+    }
 }

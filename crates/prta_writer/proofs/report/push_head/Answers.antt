@@ -12,3 +12,6 @@ returns-in-Ledger-clause-written c =
 
 pub returns-in-Certify-clause-written : goal.returns-in-Certify-clause-written
 returns-in-Certify-clause-written c = ap (λ (p : PageParts). p.written) c.push-in-Certify.ensures ∙ rw c.in-Certify.is refl
+
+pub returns-in-AnalyseCsv-clause-written : goal.returns-in-AnalyseCsv-clause-written
+returns-in-AnalyseCsv-clause-written c = ap (λ (p : PageParts). p.written) c.push-in-AnalyseCsv.ensures ∙ rw c.in-AnalyseCsv.is refl

@@ -1,6 +1,6 @@
 use Rattle.std.proofs.Common.{◌≡◌, ℕ, ◌++◌, OnErr, List, ap, ap₂, sym, subst}
 use Rattle.prta_report.specs.Page.{PageParts}
-use Rattle.prta_report.specs.Analysis.{analyse_rows, ledger_rows}
+use Rattle.prta_report.specs.Analysis.{analyse_rows, csv_rows, ledger_rows}
 use Rattle.prta_writer.specs.Report.{rows}
 use Rattle.prta_writer.specs.Writing.{TookPart}
 use Rattle.prta_writer.proofs.report.put_task.Goals as goal
@@ -21,3 +21,9 @@ pub returns-in-Certify-clause-part : goal.returns-in-Certify-clause-part
 returns-in-Certify-clause-part g c =
     subst (λ (row : List ℕ). OnErr c.put_level.result (TookPart (g.O.Sink.taken c.args.out.now) (g.O.Sink.taken c.put_level.new.out) (c.args.desk.now.page.written ++ row)))
     (sym (ap (λ what. rows what c.args.sheet.now c.args.task) c.in-Certify.is)) c.put_level.ensures.part
+
+pub returns-in-AnalyseCsv-clause-part : goal.returns-in-AnalyseCsv-clause-part
+returns-in-AnalyseCsv-clause-part g c =
+    let same : c.analyse-in-AnalyseCsv.new.desk.page.written ++ csv_rows c.args.sheet.now c.args.task ≡ c.args.desk.now.page.written ++ rows c.args.what c.args.sheet.now c.args.task =
+    ap₂ (λ (p : PageParts) (r : List ℕ). p.written ++ r) c.analyse-in-AnalyseCsv.ensures.page (sym (ap (λ what. rows what c.args.sheet.now c.args.task) c.in-AnalyseCsv.is)) in
+    subst (λ t. OnErr c.put_job_rows-in-AnalyseCsv.result (TookPart (g.O.Sink.taken c.args.out.now) (g.O.Sink.taken c.put_job_rows-in-AnalyseCsv.new.out) t)) same c.put_job_rows-in-AnalyseCsv.ensures.part

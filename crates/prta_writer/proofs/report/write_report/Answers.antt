@@ -1,7 +1,7 @@
-use Rattle.std.proofs.Common.{rules, ◌≡◌, ℕ, ◌++◌, List, flat_map, codes, ap, ◌∙◌, subst}
+use Rattle.std.proofs.Common.{rules, ◌≡◌, ℕ, ◌++◌, List, flat_map, ap, ◌∙◌, subst}
 use Rattle.prta_sheet.specs.Sheet.{Sheet, sheet_order}
 use Rattle.prta_report.specs.Page.{PageParts}
-use Rattle.prta_writer.specs.Report.{head, rows, report_text}
+use Rattle.prta_writer.specs.Report.{head, rows, last_line, report_text}
 use Rattle.prta_writer.specs.Writing.{Took, TookPart}
 use Rattle.prta_writer.proofs.Taking.{more_put, longer, put_whole, part_then, part_of_more}
 use Rattle.prta_writer.proofs.RowsInTurn.{cut_short}
@@ -12,11 +12,11 @@ use Rattle.prta_writer.proofs.report.write_report.Goals.{After-make_room}
 
 -- what was written is the text but for its end
 text_is : (g : given.Over) (c : After-make_room g) →
-    (c.push_head.new.page.written ++ flat_map (rows c.args.what c.args.sheet.now) (sheet_order c.args.sheet.now.tasks)) ++ codes "end\n" ≡ report_text c.args.what c.args.sheet.now
+    (c.push_head.new.page.written ++ flat_map (rows c.args.what c.args.sheet.now) (sheet_order c.args.sheet.now.tasks)) ++ last_line c.args.what ≡ report_text c.args.what c.args.sheet.now
 text_is g c =
     let sheet : Sheet = c.args.sheet.now in
     let first : c.push_head.new.page.written ≡ head c.args.what sheet = c.push_head.ensures.written ∙ ap (λ (p : PageParts). p.written ++ head c.args.what sheet) c.clear.ensures in
-    ap (λ t. (t ++ flat_map (rows c.args.what sheet) (sheet_order sheet.tasks)) ++ codes "end\n") first ∙ in_parts c.args.what sheet
+    ap (λ t. (t ++ flat_map (rows c.args.what sheet) (sheet_order sheet.tasks)) ++ last_line c.args.what) first ∙ in_parts c.args.what sheet
 
 pub returns-in_err-make_room-clause-part : goal.returns-in_err-make_room-clause-part
 returns-in_err-make_room-clause-part g c =
@@ -25,7 +25,7 @@ returns-in_err-make_room-clause-part g c =
     let d = g.O.Sink.taken c.make_room.new.sink in
     let part : TookPart a d (report_text c.args.what c.args.sheet.now) =
     subst (λ t. TookPart a d t) (text_is g (goal.at.returns-in_err-make_room-clause-part g c).After-make_room)
-    (cut_short a b d _ (codes "end\n") c.put_rows.new.desk.page.written c.in_ok-put_rows.ensures.took c.in_err-make_room.ensures.part) in
+    (cut_short a b d _ (last_line c.args.what) c.put_rows.new.desk.page.written c.in_ok-put_rows.ensures.took c.in_err-make_room.ensures.part) in
     search (rules, part)
 
 pub returns-in_err-put_all-clause-part : goal.returns-in_err-put_all-clause-part
@@ -35,8 +35,8 @@ returns-in_err-put_all-clause-part g c =
     let d = g.O.Sink.taken c.make_room.new.sink in
     let e = g.O.Sink.taken c.put_all.new.sink in
     let page : List ℕ = c.make_room.new.page.written in
-    let last : List ℕ = codes "end\n" in
-    let bytes : c.bytes.result.now ≡ page ++ last = c.bytes.ensures ∙ ap (λ (p : PageParts). p.written) c.push.ensures in
+    let last : List ℕ = last_line c.args.what in
+    let bytes : c.bytes.result.now ≡ page ++ last = c.bytes.ensures ∙ ap (λ (p : PageParts). p.written) c.push.ensures ∙ ap (λ more. page ++ more) c.last_line.ensures.line in
     let went = more_put a b d _ c.put_rows.new.desk.page.written page c.in_ok-put_rows.ensures.took c.in_ok-make_room.ensures.took in
     let part : TookPart a e (report_text c.args.what c.args.sheet.now) =
     subst (λ t. TookPart a e t) (text_is g (goal.at.returns-in_err-put_all-clause-part g c).After-make_room)
@@ -51,7 +51,7 @@ returns-in_err-put_rows-clause-part g c =
     let body : List ℕ = flat_map (rows c.args.what sheet) (sheet_order sheet.tasks) in
     let first : c.push_head.new.page.written ≡ head c.args.what sheet = c.push_head.ensures.written ∙ ap (λ (p : PageParts). p.written ++ head c.args.what sheet) c.clear.ensures in
     let part : TookPart a b (report_text c.args.what sheet) =
-    subst (λ t. TookPart a b t) (ap (λ t. (t ++ body) ++ codes "end\n") first ∙ in_parts c.args.what sheet) (part_of_more a b (c.push_head.new.page.written ++ body) (codes "end\n") c.in_err-put_rows.ensures.part) in
+    subst (λ t. TookPart a b t) (ap (λ t. (t ++ body) ++ last_line c.args.what) first ∙ in_parts c.args.what sheet) (part_of_more a b (c.push_head.new.page.written ++ body) (last_line c.args.what) c.in_err-put_rows.ensures.part) in
     search (rules, part)
 
 pub returns-clause-text : goal.returns-clause-text
@@ -61,8 +61,8 @@ returns-clause-text g c =
     let d = g.O.Sink.taken c.make_room.new.sink in
     let e = g.O.Sink.taken c.put_all.new.sink in
     let page : List ℕ = c.make_room.new.page.written in
-    let last : List ℕ = codes "end\n" in
-    let bytes : c.bytes.result.now ≡ page ++ last = c.bytes.ensures ∙ ap (λ (p : PageParts). p.written) c.push.ensures in
+    let last : List ℕ = last_line c.args.what in
+    let bytes : c.bytes.result.now ≡ page ++ last = c.bytes.ensures ∙ ap (λ (p : PageParts). p.written) c.push.ensures ∙ ap (λ more. page ++ more) c.last_line.ensures.line in
     let went = more_put a b d _ c.put_rows.new.desk.page.written page c.in_ok-put_rows.ensures.took c.in_ok-make_room.ensures.took in
     subst (λ t. Took a e t) (text_is g (goal.at.returns-clause-text g c).After-make_room)
     (put_whole a d e _ (page ++ last) (longer a d _ page last went) (subst (λ t. Took d e t) bytes c.in_ok-put_all.ensures.whole))

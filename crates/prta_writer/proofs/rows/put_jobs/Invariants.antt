@@ -7,7 +7,7 @@ use Rattle.prta_writer.proofs.rows.put_jobs.Given as goal
 
 abbrev pub invariant-loop-number : goal.invariant-loop-number
 invariant-loop-number g l = record {
-  took : TookAllBut (g.O.Sink.taken l.fn.out) (g.O.Sink.taken l.out) (l.fn.page.written ++ flat_map (job_row l.sheet l.task) (range_with_len 0 l.number)) l.page.written;
+  took : TookAllBut (g.O.Sink.taken l.fn.out) (g.O.Sink.taken l.out) (l.fn.page.written ++ flat_map (job_row l.line l.sheet l.task) (range_with_len 0 l.number)) l.page.written;
   size : length l.page.written + l.page.spare ≡ length l.fn.page.written + l.fn.page.spare;
   faults : g.O.Sink.faults l.fn.out ≤ g.O.Sink.faults l.out;
 }
