@@ -1,5 +1,5 @@
 -- The answers and endings of commands.
-use Rattle.std.proofs.Common.{◌≡◌, ◌≢◌, ℕ, ◌<◌, Bool, true, false, not, nat_lt, Option, Some, None, is_some, is_none, IfSome, IsSomeAnd, List, [], ◌∷◌, ◌++◌, length, refl, sym, ap, subst, inl, inr, arith}
+use Rattle.std.proofs.Common.{◌≡◌, ◌≢◌, ℕ, ◌<◌, Bool, true, false, not, nat_lt, Option, Some, None, is_some, is_none, option_and_then, IfSome, IsSomeAnd, List, [], ◌∷◌, ◌++◌, length, refl, sym, ap, subst, inl, inr, arith}
 use Rattle.std.specs.Option.{option_map_or}
 use Rattle.std.proofs.lemmas.Bool.Decides.{nat_tests}
 use Rattle.prta_outside.specs.Shelf.{count_of, count_of_failed}
@@ -23,16 +23,31 @@ use Rattle.prta_certfile.specs.declared.level.CertLevel.{CertLevel}
 use Rattle.prta_certfile.specs.declared.fault.CertFault.{CertFault}
 use Rattle.prta_certfile.specs.declared.fault.CertFault.TheVariants as certificate
 use Rattle.prta_certfile.specs.Reading.{fault_of, levels_of}
-use Rattle.prta_cli.specs.declared.input.InputFault.TheVariants.{Times, Certificate}
+use Rattle.prta_cli.specs.declared.input.InputFault.TheVariants.{Times, Certificate, Counts}
+use Rattle.prta_sheet.specs.Accepted.{IsAccepted}
+use Rattle.prta_sheet.specs.Canonical.{canonical_text}
+use Rattle.prta_times.specs.declared.limits.TheConstants.{COUNTS_LIMIT}
+use Rattle.prta_times.specs.declared.fault.CountsFault.{CountsFault}
+use Rattle.prta_times.specs.declared.fault.CountsFault.TheVariants as counts
+use Rattle.prta_times.specs.Counts.{counts_fault, sheet_with}
+use Rattle.prta_cli.specs.declared.words.SheetCommand.{SheetCommand}
+use Rattle.prta_cli.specs.declared.words.SheetCommand.TheVariants.{Analyse, AnalyseCsv, Ledger, Check, Certify, Assign}
+use Rattle.prta_cli.specs.declared.words.FilesCommand.{FilesCommand}
+use Rattle.prta_cli.specs.declared.words.FilesCommand.TheVariants.{Verify, Simulate, Import}
 use Rattle.prta_cli.specs.declared.times.TheConstants.{TIMES_LIMIT}
 use Rattle.prta_cli.specs.declared.times.TimesFault.{TimesFault}
 use Rattle.prta_cli.specs.declared.times.TimesFault.TheVariants as times
-use Rattle.prta_cli.specs.Words.{Command, command, analyse, ledger, check, certify, assign, verify, simulate, sheet_name, second_name}
-use Rattle.prta_cli.specs.Answer.{Answer, Files, answer, answer_to, answer_to_file, answer_to_sheet, judged, judgement, verification, simulation, told, told_no, plain, refused, input_refused, IsSheetOf, IsCertificateOf, IsAcceptedFile}
+use Rattle.prta_cli.specs.Words.{Command, command, of_sheet, of_files, of_seed, sheet_name, second_name}
+use Rattle.prta_cli.specs.Answer.{Answer, Files, answer, answer_to, answer_to_file, answer_to_sheet, answer_to_files, judged, judgement, verification, simulation, importing, told, told_no, plain, refused, input_refused, IsSheetOf, IsCertificateOf, IsSheetWith, IsAcceptedFile, sheet_under}
 use Rattle.prta_cli.specs.Times.{times_in, times_fault}
 use Rattle.prta_cli.specs.Ending.{status_of, IsServed, EndsBy}
 use Rattle.prta_writer.specs.Writing.{Took, TookPart}
-use Rattle.prta_cli.specs.Causes.{HoldsFor, HasFailed, SheetFailed, ReadFailed, IsReadFault, IsOrNoMemory, IsAfterWords}
+use Rattle.prta_cli.specs.Causes.{HoldsFor, HasFailed, SheetFailed, ReadFailed, IsNoted, IsReadFault, IsAcceptedWith, IsOrNoMemory, IsAfterWords}
+
+-- what holds for every shelf's files holds for those of one, where it tells them
+pub each_file : (held : Option Files) (P : Files → Type 0) → ((files : Files) → P files) → IfSome held P
+each_file None P h = tt
+each_file (Some files) P h = h files
 
 -- a file past the limit is refused by that
 pub too_long : (answers : Sheet → Answer) (held : Option (List ℕ)) → IsSomeAnd held (λ bytes. SHEET_LIMIT < length bytes) → answer_to_file answers held ≡ refused TooLong
@@ -46,6 +61,23 @@ times_too_long sheet (Some bytes) h = let long : nat_lt TIMES_LIMIT (length byte
 pub certificate_too_long : (sheet : Sheet) (held : Option (List ℕ)) → IsSomeAnd held (λ bytes. CERT_LIMIT < length bytes) → verification sheet held ≡ input_refused (Certificate certificate.TooLong)
 certificate_too_long sheet None h = absurd h
 certificate_too_long sheet (Some bytes) h = let long : nat_lt CERT_LIMIT (length bytes) ≡ true = grind (arith, nat_tests) in rw long refl
+
+pub counts_too_long : (sheet : Sheet) (held : Option (List ℕ)) → IsSomeAnd held (λ bytes. COUNTS_LIMIT < length bytes) → importing sheet held ≡ input_refused (Counts counts.TooLong)
+counts_too_long sheet None h = absurd h
+counts_too_long sheet (Some bytes) h = let long : nat_lt COUNTS_LIMIT (length bytes) ≡ true = grind (arith, nat_tests) in rw long refl
+
+-- the answer to counts by the sheet that they make, or by the first fault
+pub of_counts : (sheet : Sheet) (held : Option (List ℕ)) (made : Sheet) → IsSheetWith sheet held made → importing sheet held ≡ told (canonical_text made)
+of_counts sheet None made h = absurd h
+of_counts sheet (Some bytes) made h = rw h.0 (ap (λ m. told (canonical_text m)) (sym h.1))
+
+pub of_counts_fault : (sheet : Sheet) (bytes : List ℕ) (fault : CountsFault) → counts_fault sheet bytes ≡ Some fault → importing sheet (Some bytes) ≡ input_refused (Counts fault)
+of_counts_fault sheet bytes fault e = rw e refl
+
+-- the sheet that they make is the accepted one
+pub made_accepted : (sheet : Sheet) (held : Option (List ℕ)) (made : Sheet) → IsSheetWith sheet held made → IsAccepted made → IsAcceptedWith sheet held
+made_accepted sheet None made h is = absurd h
+made_accepted sheet (Some bytes) made h is = subst IsAccepted h.1 is
 
 -- the answer to a certificate by the levels that it states, or by its first fault
 pub of_certificate : (sheet : Sheet) (held : Option (List ℕ)) (levels : List CertLevel) → IsCertificateOf sheet held levels → verification sheet held ≡ judgement sheet levels
@@ -61,9 +93,17 @@ held_levels sheet None levels h hold = absurd h
 held_levels sheet (Some bytes) levels h hold = subst (NumbersHold sheet) h.1 hold
 
 -- the answer to the file of an accepted sheet is the one to that sheet
-pub of_sheet : (answers : Sheet → Answer) (held : Option (List ℕ)) (sheet : Sheet) → IsSheetOf held sheet → answer_to_file answers held ≡ answers sheet
-of_sheet answers None sheet h = absurd h
-of_sheet answers (Some bytes) sheet h = rw (h.0, h.1) refl
+pub of_sheet_file : (answers : Sheet → Answer) (held : Option (List ℕ)) (sheet : Sheet) → IsSheetOf held sheet → answer_to_file answers held ≡ answers sheet
+of_sheet_file answers None sheet h = absurd h
+of_sheet_file answers (Some bytes) sheet h = rw (h.0, h.1) refl
+
+-- what holds of an accepted sheet holds of the one that is stated
+pub shown : (P : Sheet → Type 0) (files : Files) (name : List ℕ) (sheet : Sheet) → IsSheetOf (files name) sheet → P sheet → IsSomeAnd (sheet_under files name) P
+shown P files name sheet is holds = of_held (files name) is
+  where
+    of_held : (held : Option (List ℕ)) → IsSheetOf held sheet → IsSomeAnd (option_and_then sheet_stated held) P
+    of_held None h = absurd h
+    of_held (Some bytes) h = rw h.1 holds
 
 pub accepted : (held : Option (List ℕ)) (sheet : Sheet) → IsSheetOf held sheet → IsAcceptedFile held
 accepted None sheet h = absurd h
@@ -81,11 +121,11 @@ module _ (first last : Option (List ℕ)) where
   ends_cut a served part = record { status_is = λ e. absurd e; text = λ e. absurd e; served = λ _. served; part = λ _. part; tells = tt }
 
   -- to a command whose sheet is accepted
-  pub ends_by_sheet : (held : Option Files) (c : Command) (sheet : Sheet) (ending : Ending) → IfSome held (λ files. IsSheetOf (files (sheet_name c)) sheet) →
-      ((files : Files) → EndsBy ending (answer_to_sheet files c sheet) first last) → IfSome held (λ files. EndsBy ending (answer_to files c) first last)
-  ends_by_sheet None c sheet ending is ends = tt
-  ends_by_sheet (Some files) c sheet ending is ends =
-      subst (λ a. EndsBy ending a first last) (sym (of_sheet (answer_to_sheet files c) (files (sheet_name c)) sheet is)) (ends files)
+  pub ends_by_sheet : (held : Option Files) (name : List ℕ) (answers : Files → Sheet → Answer) (sheet : Sheet) (ending : Ending) → IfSome held (λ files. IsSheetOf (files name) sheet) →
+      IfSome held (λ files. EndsBy ending (answers files sheet) first last) → IfSome held (λ files. EndsBy ending (answer_to_file (answers files) (files name)) first last)
+  ends_by_sheet None name answers sheet ending is ends = tt
+  ends_by_sheet (Some files) name answers sheet ending is ends =
+      subst (λ a. EndsBy ending a first last) (sym (of_sheet_file (answers files) (files name) sheet is)) ends
 
 -- ---- a text that says yes or no
 
@@ -139,14 +179,26 @@ simulation_accepts sheet (Some bytes) = by_fault (times_fault sheet bytes)
     by_fault None = λ e. cc
     by_fault (Some fault) = λ e. cc
 
-answer_accepts : (files : Files) (c : Command) (sheet : Sheet) → (answer_to_sheet files c sheet).status ≢ status.SheetRefused
-answer_accepts files (analyse name) sheet = λ e. cc
-answer_accepts files (ledger name) sheet = λ e. cc
-answer_accepts files (check name) sheet = judged_accepts (is_some (failing_job sheet)) (check_text sheet)
-answer_accepts files (certify name) sheet = λ e. cc
-answer_accepts files (assign name) sheet = judged_accepts (not (is_found (verdict sheet))) (assign_text sheet)
-answer_accepts files (verify name certificate) sheet = verification_accepts sheet (files certificate)
-answer_accepts files (simulate name times) sheet = simulation_accepts sheet (files times)
+importing_accepts : (sheet : Sheet) (held : Option (List ℕ)) → (importing sheet held).status ≢ status.SheetRefused
+importing_accepts sheet None = λ e. cc
+importing_accepts sheet (Some bytes) = by_fault (counts_fault sheet bytes)
+  where
+    by_fault : (fault : Option CountsFault) → (option_map_or (λ fault. input_refused (Counts fault)) fault (told (canonical_text (sheet_with sheet bytes)))).status ≢ status.SheetRefused
+    by_fault None = λ e. cc
+    by_fault (Some fault) = λ e. cc
+
+sheet_accepts : (asked : SheetCommand) (sheet : Sheet) → (answer_to_sheet asked sheet).status ≢ status.SheetRefused
+sheet_accepts Analyse sheet = λ e. cc
+sheet_accepts AnalyseCsv sheet = λ e. cc
+sheet_accepts Ledger sheet = λ e. cc
+sheet_accepts Check sheet = judged_accepts (is_some (failing_job sheet)) (check_text sheet)
+sheet_accepts Certify sheet = λ e. cc
+sheet_accepts Assign sheet = judged_accepts (not (is_found (verdict sheet))) (assign_text sheet)
+
+files_accepts : (asked : FilesCommand) (held : Option (List ℕ)) (sheet : Sheet) → (answer_to_files asked sheet held).status ≢ status.SheetRefused
+files_accepts Verify held sheet = verification_accepts sheet held
+files_accepts Simulate held sheet = simulation_accepts sheet held
+files_accepts Import held sheet = importing_accepts sheet held
 
 file_accepts : (answers : Sheet → Answer) → ((sheet : Sheet) → (answers sheet).status ≢ status.SheetRefused) → (held : Option (List ℕ)) → IsAcceptedFile held →
     (answer_to_file answers held).status ≢ status.SheetRefused
@@ -157,37 +209,43 @@ file_accepts answers accepts (Some bytes) is = rw is (by_sheet (sheet_stated byt
     by_sheet None = λ e. cc
     by_sheet (Some sheet) = accepts sheet
 
-module _ (words : List (List ℕ)) (c : Command) (given : command words ≡ Some c) (before now : List (List ℕ)) where
+-- a command whose sheet, where it reads one, is accepted doesn't refuse it
+answer_accepts : (files : Files) (c : Command) → IsSomeAnd (sheet_name c) (λ name. IsAcceptedFile (files name)) → (answer_to files c).status ≢ status.SheetRefused
+answer_accepts files (of_sheet name asked) is = file_accepts (answer_to_sheet asked) (sheet_accepts asked) (files name) is
+answer_accepts files (of_files name second asked) is = file_accepts (λ sheet. answer_to_files asked sheet (files second)) (files_accepts asked (files second)) (files name) is
+answer_accepts files (of_seed seed tasks asked) is = absurd is
+
+module _ (before now : List (List ℕ)) where
+  -- a name that was noted has failed
   failed_read : (name : List ℕ) → now ≡ before ++ name ∷ [] → HasFailed before now name
   failed_read name e = rw (e, count_of_failed before name) (omega arith)
 
+  named : (name : Option (List ℕ)) → IsNoted before now name → IsSomeAnd name (HasFailed before now)
+  named None h = h
+  named (Some name) h = failed_read name h
+
+  -- where no name was noted, none has failed
+  none_failed : now ≡ before → (name : Option (List ℕ)) → ¬ IsSomeAnd name (HasFailed before now)
+  none_failed e None h = absurd h
+  none_failed e (Some name) h = absurd (omega (arith, h, ap (λ names. count_of names name) e))
+
+module _ (words : List (List ℕ)) (c : Command) (given : command words ≡ Some c) (before now : List (List ℕ)) where
   read_failed : (held : Option Files) → IsReadFault held c before now → ReadFailed words before now
-  read_failed held (inl sheet) = rw given (inl (failed_read (sheet_name c) sheet))
-  read_failed held (inr second) = rw given (inr (named (second_name c) second.0))
-    where
-      named : (name : Option (List ℕ)) → IsSomeAnd name (λ n. now ≡ before ++ n ∷ []) → IsSomeAnd name (HasFailed before now)
-      named None h = h
-      named (Some name) h = failed_read name h
+  read_failed held (inl sheet) = rw given (inl (named before now (sheet_name c) sheet))
+  read_failed held (inr second) = rw given (inr (named before now (second_name c) second.0))
 
   -- it is one of the words' command
   pub read_fault : (held : Option Files) → IsReadFault held c before now → IsSomeAnd (command words) (λ (d : Command). IsReadFault held d before now)
   read_fault held fault = rw given fault
 
   -- where the read of the sheet didn't fail, the sheet is accepted
-  accepted_before : (files : Files) → IsReadFault (Some files) c before now → ¬ SheetFailed words before now → IsAcceptedFile (files (sheet_name c))
-  accepted_before files (inl sheet) unread = absurd (unread (rw given (failed_read (sheet_name c) sheet)))
+  accepted_before : (files : Files) → IsReadFault (Some files) c before now → ¬ SheetFailed words before now → IsSomeAnd (sheet_name c) (λ name. IsAcceptedFile (files name))
+  accepted_before files (inl sheet) unread = absurd (unread (rw given (named before now (sheet_name c) sheet)))
   accepted_before files (inr second) unread = second.1
 
   -- no name was noted, so no read failed
   pub nothing_failed : now ≡ before → ¬ ReadFailed words before now
-  nothing_failed e failed = elim failed [ inl h ↦ none (sheet_name c) (rw given at h) | inr h ↦ none_named (second_name c) (rw given at h) ]
-    where
-      none : (name : List ℕ) → ¬ HasFailed before now name
-      none name h = absurd (omega (arith, h, ap (λ names. count_of names name) e))
-
-      none_named : (name : Option (List ℕ)) → ¬ IsSomeAnd name (HasFailed before now)
-      none_named None h = absurd h
-      none_named (Some name) h = none name h
+  nothing_failed e failed = elim failed [ inl h ↦ none_failed before now e (sheet_name c) (rw given at h) | inr h ↦ none_failed before now e (second_name c) (rw given at h) ]
 
   module _ (first last : Option (List ℕ)) where
     -- an ending, against the answer to the words
@@ -236,9 +294,7 @@ module _ (words : List (List ℕ)) (c : Command) (given : command words ≡ Some
         IfSome held (λ files. (answer files words).status ≡ status.SheetRefused → IsOrNoMemory (status_of ending) status.SheetRefused)
     refused_as_told None ending r f unread e = tt
     refused_as_told (Some files) ending r f unread e =
-        rw given
-        (refused_so (answer_to files c) ending r
-        (λ is. file_accepts (answer_to_sheet files c) (answer_accepts files c) (files (sheet_name c)) (accepted_before files (f is) unread)) e)
+        rw given (refused_so (answer_to files c) ending r (λ is. answer_accepts files c (accepted_before files (f is) unread)) e)
 
     pub unserved_as_told : (held : Option Files) (ending : Ending) → IsAfterWords (status_of ending) → (status_of ending ≡ status.ReadFault → IsReadFault held c before now) → ¬ ReadFailed words before now →
         IfSome held (λ files. EndsBy ending (answer_to files c) first last) →

@@ -7,7 +7,8 @@ use Rattle.prta_sheet.specs.Stated.{sheet_stated}
 use Rattle.prta_sheet.specs.Refusal.{refusal}
 use Rattle.prta_certfile.specs.declared.level.CertLevel.{CertLevel}
 use Rattle.prta_certfile.specs.Reading.{fault_of, levels_of}
-use Rattle.prta_report.specs.Analysis.{analyse_text, ledger_text, check_text, failing_job}
+use Rattle.prta_sheet.specs.Canonical.{canonical_text}
+use Rattle.prta_report.specs.Analysis.{analyse_text, csv_text, ledger_text, check_text, bench_text, failing_job}
 use Rattle.prta_report.specs.Certificates.{certify_text, verify_text, broken_task}
 use Rattle.prta_report.specs.Assignment.{assign_text}
 use Rattle.prta_audsley.specs.Verdict.{verdict}
@@ -15,8 +16,16 @@ use Rattle.prta_writer.specs.Assigning.{is_found}
 use Rattle.prta_cli.specs.declared.status.Status.{Status}
 use Rattle.prta_cli.specs.declared.status.Status.TheVariants.{Done, No, Usage, SheetRefused, InputRefused, ReadFault, WriteFault, NoMemory}
 use Rattle.prta_cli.specs.declared.input.InputFault.{InputFault}
-use Rattle.prta_cli.specs.declared.input.InputFault.TheVariants.{Times, Certificate}
-use Rattle.prta_cli.specs.Words.{Command, analyse, ledger, check, certify, assign, verify, simulate, command, sheet_name}
+use Rattle.prta_cli.specs.declared.input.InputFault.TheVariants.{Times, Certificate, Counts}
+use Rattle.prta_cli.specs.declared.words.SheetCommand.{SheetCommand}
+use Rattle.prta_cli.specs.declared.words.SheetCommand.TheVariants.{Analyse, AnalyseCsv, Ledger, Check, Certify, Assign}
+use Rattle.prta_cli.specs.declared.words.FilesCommand.{FilesCommand}
+use Rattle.prta_cli.specs.declared.words.FilesCommand.TheVariants.{Verify, Simulate, Import}
+use Rattle.prta_cli.specs.declared.words.SeedCommand.{SeedCommand}
+use Rattle.prta_cli.specs.declared.words.SeedCommand.TheVariants.{Generate, Bench}
+use Rattle.prta_cli.specs.Words.{Command, of_sheet, of_files, of_seed, command}
+use Rattle.prta_gen.specs.Generator.{generated}
+use Rattle.prta_times.specs.Counts.{counts_fault, sheet_with}
 use Rattle.prta_cli.specs.Times.{times_in, times_fault}
 use Rattle.prta_report.specs.Trace.{simulate_text}
 use Rattle.prta_cli.specs.Refused.{refused_line, input_line}
@@ -80,18 +89,33 @@ abbrev pub verification : Sheet → Option (List ℕ) → Answer
 verification sheet None = plain ReadFault
 verification sheet (Some bytes) = option_map_or (λ fault. input_refused (Certificate fault)) (fault_of sheet.tasks sheet.settings.cap bytes) (judgement sheet (levels_of sheet.tasks bytes))
 
+-- to `import`: the text of the sheet with the tables of the counts that are held under their name
+abbrev pub importing : Sheet → Option (List ℕ) → Answer
+importing sheet None = plain ReadFault
+importing sheet (Some bytes) = option_map_or (λ fault. input_refused (Counts fault)) (counts_fault sheet bytes) (told (canonical_text (sheet_with sheet bytes)))
+
 -- the names of files, and the bytes under them
 abbrev pub Files : Type 0
 Files = List ℕ → Option (List ℕ)
 
-abbrev pub answer_to_sheet : Files → Command → Sheet → Answer
-answer_to_sheet files (analyse name) sheet = told (analyse_text sheet)
-answer_to_sheet files (ledger name) sheet = told (ledger_text sheet)
-answer_to_sheet files (check name) sheet = checking sheet
-answer_to_sheet files (certify name) sheet = told (certify_text sheet)
-answer_to_sheet files (assign name) sheet = assigning sheet
-answer_to_sheet files (verify name certificate) sheet = verification sheet (files certificate)
-answer_to_sheet files (simulate name times) sheet = simulation sheet (files times)
+-- to what is asked of an accepted sheet, and of one with what is held under the second name
+abbrev pub answer_to_sheet : SheetCommand → Sheet → Answer
+answer_to_sheet Analyse sheet = told (analyse_text sheet)
+answer_to_sheet AnalyseCsv sheet = told (csv_text sheet)
+answer_to_sheet Ledger sheet = told (ledger_text sheet)
+answer_to_sheet Check sheet = checking sheet
+answer_to_sheet Certify sheet = told (certify_text sheet)
+answer_to_sheet Assign sheet = assigning sheet
+
+abbrev pub answer_to_files : FilesCommand → Sheet → Option (List ℕ) → Answer
+answer_to_files Verify sheet held = verification sheet held
+answer_to_files Simulate sheet held = simulation sheet held
+answer_to_files Import sheet held = importing sheet held
+
+-- to what is asked of a generated sheet
+abbrev pub answer_to_seed : SeedCommand → Sheet → Answer
+answer_to_seed Generate sheet = told (canonical_text sheet)
+answer_to_seed Bench sheet = told (bench_text sheet)
 
 -- by the first condition that fails on a sheet, and by the sheet that is stated; bytes that no condition refuses state one, so that the
 -- answer where there is none doesn't come
@@ -105,7 +129,9 @@ answer_to_file answers (Some bytes) = answer_by answers (refusal bytes) (sheet_s
 
 -- the answer to a command, and to words
 abbrev pub answer_to : Files → Command → Answer
-answer_to files c = answer_to_file (answer_to_sheet files c) (files (sheet_name c))
+answer_to files (of_sheet name asked) = answer_to_file (answer_to_sheet asked) (files name)
+answer_to files (of_files name second asked) = answer_to_file (λ sheet. answer_to_files asked sheet (files second)) (files name)
+answer_to files (of_seed seed tasks asked) = answer_to_seed asked (generated seed tasks)
 
 abbrev pub answer : Files → List (List ℕ) → Answer
 answer files words = option_map_or (answer_to files) (command words) (plain Usage)
@@ -117,6 +143,10 @@ IsSheetOf held sheet = IsSomeAnd held (λ bytes. (refusal bytes ≡ None) × (sh
 -- no condition refuses the bytes that are held as a certificate of the sheet, and they state the levels
 abbrev pub IsCertificateOf : Sheet → Option (List ℕ) → List CertLevel → Type 0
 IsCertificateOf sheet held levels = IsSomeAnd held (λ bytes. (fault_of sheet.tasks sheet.settings.cap bytes ≡ None) × (levels ≡ levels_of sheet.tasks bytes))
+
+-- no condition refuses the bytes that are held as counts for the sheet, and they make the other one
+abbrev pub IsSheetWith : Sheet → Option (List ℕ) → Sheet → Type 0
+IsSheetWith sheet held made = IsSomeAnd held (λ bytes. (counts_fault sheet bytes ≡ None) × (made ≡ sheet_with sheet bytes))
 
 -- no condition refuses the bytes as a sheet
 abbrev pub IsAcceptedFile : Option (List ℕ) → Type 0

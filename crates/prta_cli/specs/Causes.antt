@@ -7,7 +7,14 @@ use Rattle.prta_cli.specs.declared.status.Status.{Status}
 use Rattle.prta_cli.specs.declared.status.Status.TheVariants.{Done, No, Usage, SheetRefused, InputRefused, ReadFault, WriteFault, NoMemory}
 use Rattle.prta_cli.specs.declared.input.InputFault.{InputFault}
 use Rattle.prta_certfile.specs.Reading.{levels_of}
-use Rattle.prta_cli.specs.Words.{Command, analyse, ledger, check, certify, assign, verify, simulate, command, sheet_name, second_name}
+use Rattle.prta_sheet.specs.Accepted.{IsAccepted}
+use Rattle.prta_gen.specs.Generator.{generated}
+use Rattle.prta_times.specs.Counts.{sheet_with}
+use Rattle.prta_cli.specs.declared.words.SheetCommand.{SheetCommand}
+use Rattle.prta_cli.specs.declared.words.SheetCommand.TheVariants.{Analyse, AnalyseCsv, Ledger, Check, Certify, Assign}
+use Rattle.prta_cli.specs.declared.words.FilesCommand.{FilesCommand}
+use Rattle.prta_cli.specs.declared.words.FilesCommand.TheVariants.{Verify, Simulate, Import}
+use Rattle.prta_cli.specs.Words.{Command, of_sheet, of_files, of_seed, command, sheet_name, second_name}
 use Rattle.prta_cli.specs.Answer.{Files, answer, err_line, sheet_under, IsAcceptedFile}
 use Rattle.prta_writer.specs.Meaning.{AreAround, AreClose, ChancesPass, AreFound, NumbersHold}
 use Rattle.prta_audsley.specs.Verdict.{VerdictHolds}
@@ -17,9 +24,9 @@ use Rattle.prta_cli.specs.Refused.{refused_line, input_line}
 abbrev pub HasFailed : List (List ℕ) → List (List ℕ) → List ℕ → Type 0
 HasFailed before now name = count_of before name < count_of now name
 
--- that of the sheet's name
+-- that of the sheet's name, where the command reads a sheet
 abbrev pub SheetFailed : List (List ℕ) → List (List ℕ) → List (List ℕ) → Type 0
-SheetFailed words before now = IsSomeAnd (command words) (λ c. HasFailed before now (sheet_name c))
+SheetFailed words before now = IsSomeAnd (command words) (λ c. IsSomeAnd (sheet_name c) (HasFailed before now))
 
 -- that of the second file's name, where the command has a second file
 abbrev pub SecondFailed : List (List ℕ) → List (List ℕ) → List (List ℕ) → Type 0
@@ -29,31 +36,55 @@ SecondFailed words before now = IsSomeAnd (command words) (λ c. IsSomeAnd (seco
 abbrev pub ReadFailed : List (List ℕ) → List (List ℕ) → List (List ℕ) → Type 0
 ReadFailed words before now = SheetFailed words before now ⊎ SecondFailed words before now
 
+-- one name was noted
+abbrev pub IsNoted : List (List ℕ) → List (List ℕ) → Option (List ℕ) → Type 0
+IsNoted before now name = IsSomeAnd name (λ n. now ≡ before ++ n ∷ [])
+
 -- the read of the sheet failed, or after that of an accepted sheet the read of the second file
 abbrev pub IsReadFault : Option Files → Command → List (List ℕ) → List (List ℕ) → Type 0
 IsReadFault held c before now =
-    (now ≡ before ++ sheet_name c ∷ [])
-    ⊎ (IsSomeAnd (second_name c) (λ name. now ≡ before ++ name ∷ []) × IfSome held (λ files. IsAcceptedFile (files (sheet_name c))))
+    IsNoted before now (sheet_name c)
+    ⊎ (IsNoted before now (second_name c) × IfSome held (λ files. IsSomeAnd (sheet_name c) (λ name. IsAcceptedFile (files name))))
 
 -- the steady numbers for each list that the held bytes state hold in every hyperperiod
 abbrev pub HoldsFor : Sheet → Option (List ℕ) → Type 0
 HoldsFor sheet held = IsSomeAnd held (λ bytes. NumbersHold sheet (levels_of sheet.tasks bytes))
 
--- what a run that ended with Done shows of the sheet that is stated under the name: of `analyse` and `ledger` that each job's numbers are
--- around its exact chance, and no further apart than its entries add up to; of `check` that each exact chance passes; of `certify` that
--- what is found for each level is so; of `assign` that what the verdict says is so; and of `verify` that the steady numbers for each list of the certificate hold in every hyperperiod
+-- the sheet with the tables of the held counts is accepted
+abbrev pub IsAcceptedWith : Sheet → Option (List ℕ) → Type 0
+IsAcceptedWith sheet held = IsSomeAnd held (λ bytes. IsAccepted (sheet_with sheet bytes))
+
+-- what a run that ended with Done shows of the sheet: of `analyse` and `ledger` that each job's numbers are around its exact chance, and
+-- no further apart than its entries add up to; of `check` that each exact chance passes; of `certify` that what is found for each level
+-- is so; of `assign` that what the verdict says is so
+abbrev pub IsShownOfSheet : SheetCommand → Sheet → Type 0
+IsShownOfSheet Analyse sheet = AreAround sheet × AreClose sheet
+IsShownOfSheet AnalyseCsv sheet = AreAround sheet × AreClose sheet
+IsShownOfSheet Ledger sheet = AreAround sheet × AreClose sheet
+IsShownOfSheet Check sheet = ChancesPass sheet
+IsShownOfSheet Certify sheet = AreFound sheet
+IsShownOfSheet Assign sheet = VerdictHolds sheet
+
+-- of the sheet with the second file: of `verify` that the steady numbers for each list of the certificate hold in every hyperperiod; of
+-- `import` that the sheet whose text is written is an accepted one
+abbrev pub IsShownOfFiles : FilesCommand → Sheet → Option (List ℕ) → Type 0
+IsShownOfFiles Verify sheet held = HoldsFor sheet held
+IsShownOfFiles Simulate sheet held = ⊤
+IsShownOfFiles Import sheet held = IsAcceptedWith sheet held
+
+-- of the sheet that is stated under the name; of a generated sheet that it is accepted
 abbrev pub IsShown : Files → Command → Type 0
-IsShown files (analyse name) = IsSomeAnd (sheet_under files name) (λ sheet. AreAround sheet × AreClose sheet)
-IsShown files (ledger name) = IsSomeAnd (sheet_under files name) (λ sheet. AreAround sheet × AreClose sheet)
-IsShown files (check name) = IsSomeAnd (sheet_under files name) ChancesPass
-IsShown files (certify name) = IsSomeAnd (sheet_under files name) AreFound
-IsShown files (assign name) = IsSomeAnd (sheet_under files name) VerdictHolds
-IsShown files (verify name certificate) = IsSomeAnd (sheet_under files name) (λ sheet. HoldsFor sheet (files certificate))
-IsShown files (simulate name times) = ⊤
+IsShown files (of_sheet name asked) = IsSomeAnd (sheet_under files name) (IsShownOfSheet asked)
+IsShown files (of_files name second asked) = IsSomeAnd (sheet_under files name) (λ sheet. IsShownOfFiles asked sheet (files second))
+IsShown files (of_seed seed tasks asked) = IsAccepted (generated seed tasks)
 
 -- what a run that ended with No shows: of `assign` that what the verdict says is so
+abbrev pub IsShownByNoOf : SheetCommand → Sheet → Type 0
+IsShownByNoOf Assign sheet = VerdictHolds sheet
+IsShownByNoOf asked sheet = ⊤
+
 abbrev pub IsShownByNo : Files → Command → Type 0
-IsShownByNo files (assign name) = IsSomeAnd (sheet_under files name) VerdictHolds
+IsShownByNo files (of_sheet name asked) = IsSomeAnd (sheet_under files name) (IsShownByNoOf asked)
 IsShownByNo files c = ⊤
 
 -- where a shelf tells its files, the answer to the words has the status

@@ -12,6 +12,9 @@ use Rattle.prta_cli.specs.declared.times.TimesFault.TheVariants as times
 use Rattle.prta_certfile.specs.declared.fault.CertFault.{CertFault}
 use Rattle.prta_certfile.specs.declared.fault.CertFault.TheVariants as certificate
 use Rattle.prta_certfile.specs.Reading.{number_of as certificate_number}
+use Rattle.prta_times.specs.declared.fault.CountsFault.{CountsFault}
+use Rattle.prta_times.specs.declared.fault.CountsFault.TheVariants as counts
+use Rattle.prta_times.specs.Counts.{number_of as counts_number}
 use Rattle.prta_cli.specs.declared.input.InputFault.{InputFault}
 use Rattle.prta_cli.specs.declared.input.InputFault.TheVariants as input
 
@@ -92,13 +95,26 @@ certificate_tail (certificate.PlaceTooLarge n) = with_value n
 certificate_tail (certificate.NotWhole n) = with_value n
 certificate_tail certificate.NoMemory = []
 
+-- of a file of counts
+abbrev pub counts_tail : CountsFault → List ℕ
+counts_tail counts.TooLong = []
+counts_tail counts.BadHeader = []
+counts_tail (counts.BadRow n) = with_value n
+counts_tail (counts.UnknownTask n) = with_value n
+counts_tail (counts.TooManyPoints i) = with_value i
+counts_tail (counts.TotalTooLarge i) = with_value i
+counts_tail (counts.TooMuchWork n) = with_value n
+counts_tail counts.NoMemory = []
+
 abbrev pub input_number : InputFault → ℕ
 input_number (input.Times fault) = times_number fault
 input_number (input.Certificate fault) = certificate_number fault
+input_number (input.Counts fault) = counts_number fault
 
 abbrev pub input_tail : InputFault → List ℕ
 input_tail (input.Times fault) = times_tail fault
 input_tail (input.Certificate fault) = certificate_tail fault
+input_tail (input.Counts fault) = counts_tail fault
 
 unfoldable pub input_line : InputFault → List ℕ
 input_line fault = codes "prta: input refused " ++ decimal (input_number fault) ++ input_tail fault ++ codes "\n"

@@ -5,19 +5,24 @@ ghost use Rattle.prta_outside.specs.Sink.{HasRisen};
 ghost use Rattle.prta_certfile.specs.Laws.{AreLevels};
 ghost use Rattle.prta_audsley.specs.Verdict.{VerdictHolds};
 ghost use Rattle.prta_cli.specs.declared.status.Status.{Status};
-ghost use Rattle.prta_cli.specs.Answer.{told, checking, assigning, judgement, verification, simulation};
+ghost use Rattle.prta_cli.specs.Answer.{told, checking, assigning, judgement, verification, simulation, importing};
 ghost use Rattle.prta_cli.specs.Ending.{status_of, line_of, IsServed, EndsBy};
+ghost use Rattle.prta_sheet.specs.Canonical.{canonical_text};
+ghost use Rattle.prta_report.specs.Analysis.{bench_text};
 ghost use Rattle.prta_writer.specs.Report.{report_text};
-ghost use Rattle.prta_cli.specs.Causes.{IsAfterWords, IsLine, HoldsFor};
+ghost use Rattle.prta_cli.specs.Causes.{IsAfterWords, IsLine, HoldsFor, IsAcceptedWith};
 ghost use Rattle.prta_writer.specs.Meaning.{AreAround, AreClose, ChancesPass, AreFound, NumbersHold};
 
+use crate::counts::sheet_with_counts;
 use crate::ending::Ending;
 use crate::simulation::simulation;
 use crate::verification::certificate_under;
 use prta_certfile::Certificate;
 use prta_outside::{Shelf, Sink};
-use prta_sheet::Sheet;
-use prta_writer::{Room, What, assignment, put_all, write_check, write_report, write_verify};
+use prta_sheet::{Sheet, sheet_text};
+use prta_writer::{
+    Room, What, assignment, put_all, write_bench, write_check, write_report, write_verify,
+};
 use std::alloc::Global;
 
 /// Writes the report of a sheet.
@@ -132,6 +137,70 @@ fn verify_levels<O: Sink>(
     match write_verify(&mut room, sheet, certificate, out) {
         Ok(true) => Ending::Done,
         Ok(false) => Ending::No,
+        Err(_) => Ending::WriteFault,
+    }
+}
+
+/// Writes the canonical text of a sheet.
+pub fn write_sheet<O: Sink>(alloc: Global, sheet: &Sheet, out: &mut O) -> Ending
+    ensures ends { EndsBy result (told (canonical_text sheet.now)) (O.taken out.old) (O.taken out.new) }
+    ensures write_fault { status_of result ≡ Status.WriteFault → HasRisen (O.faults out.old) (O.faults out.new) }
+    ensures nothing { ¬ IsServed (status_of result) → status_of result ≢ Status.WriteFault → out.new ≡ out.old }
+    ensures ending { IsAfterWords (status_of result) }
+    ensures no_fault { status_of result ≢ Status.ReadFault }
+    ensures line { IsLine (status_of result) (line_of result) }
+{
+    let text = match sheet_text(alloc, sheet) {
+        Ok(text) => text,
+        Err(_) => return Ending::NoMemory,
+    };
+    match put_all(out, &text) {
+        Ok(()) => Ending::Done,
+        Err(_) => Ending::WriteFault,
+    }
+}
+
+/// Writes the canonical text of a sheet with the tables of the counts that are held under a name.
+pub fn import<S: Shelf, O: Sink>(
+    alloc: Global,
+    sheet: &Sheet,
+    counts: &str,
+    shelf: &mut S,
+    out: &mut O,
+) -> Ending
+    ensures ends { IfSome (S.held shelf.old) (λ files. EndsBy result (importing sheet.now (files counts.now)) (O.taken out.old) (O.taken out.new)) }
+    ensures accepted { status_of result ≡ Status.Done → IfSome (S.held shelf.old) (λ files. IsAcceptedWith sheet.now (files counts.now)) }
+    ensures write_fault { status_of result ≡ Status.WriteFault → HasRisen (O.faults out.old) (O.faults out.new) }
+    ensures nothing { ¬ IsServed (status_of result) → status_of result ≢ Status.WriteFault → out.new ≡ out.old }
+    ensures ending { IsAfterWords (status_of result) }
+    ensures fault { status_of result ≡ Status.ReadFault → S.faults shelf.new ≡ S.faults shelf.old ++ counts.now ∷ [] }
+    ensures no_fault { status_of result ≢ Status.ReadFault → S.faults shelf.new ≡ S.faults shelf.old }
+    ensures line { IsLine (status_of result) (line_of result) }
+    ensures kept { S.held shelf.new ≡ S.held shelf.old }
+{
+    let made = match sheet_with_counts(alloc, sheet, counts, shelf) {
+        Ok(made) => made,
+        Err(ending) => return ending,
+    };
+    let _tasks = made.tasks();
+    write_sheet(alloc, &made, out)
+}
+
+/// Writes how much there is of everything in the analysis of a sheet.
+pub fn bench<O: Sink>(alloc: Global, sheet: &Sheet, out: &mut O) -> Ending
+    ensures ends { EndsBy result (told (bench_text sheet.now)) (O.taken out.old) (O.taken out.new) }
+    ensures write_fault { status_of result ≡ Status.WriteFault → HasRisen (O.faults out.old) (O.faults out.new) }
+    ensures nothing { ¬ IsServed (status_of result) → status_of result ≢ Status.WriteFault → out.new ≡ out.old }
+    ensures ending { IsAfterWords (status_of result) }
+    ensures no_fault { status_of result ≢ Status.ReadFault }
+    ensures line { IsLine (status_of result) (line_of result) }
+{
+    let mut room = match Room::new(alloc, sheet) {
+        Ok(room) => room,
+        Err(_) => return Ending::NoMemory,
+    };
+    match write_bench(&mut room, sheet, out) {
+        Ok(()) => Ending::Done,
         Err(_) => Ending::WriteFault,
     }
 }

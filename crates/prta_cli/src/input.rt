@@ -5,7 +5,7 @@ ghost use Rattle.prta_cli.specs.declared.status.Status.{Status};
 ghost use Rattle.prta_cli.specs.Answer.{input_refused};
 ghost use Rattle.prta_cli.specs.Ending.{status_of, line_of, Tells};
 ghost use Rattle.prta_cli.specs.Causes.{IsBeforeOut, IsLine};
-ghost use Rattle.prta_cli.specs.Refused.{input_line, input_number, input_tail, times_tail, certificate_tail};
+ghost use Rattle.prta_cli.specs.Refused.{input_line, input_number, input_tail, times_tail, certificate_tail, counts_tail};
 
 use crate::ending::Ending;
 use crate::refused::push_value;
@@ -13,6 +13,7 @@ use crate::times::TimesFault;
 use prta_certfile::CertFault;
 use prta_mass::NoMemory;
 use prta_report::{LINE, Page, push_number};
+use prta_times::CountsFault;
 use std::alloc::Global;
 
 /// The condition that refuses a second file.
@@ -22,6 +23,8 @@ pub enum InputFault {
     Times(TimesFault),
     /// One on a certificate.
     Certificate(CertFault),
+    /// One on a file of counts.
+    Counts(CountsFault),
 }
 
 /// The ending for a condition that refuses the file.
@@ -56,6 +59,7 @@ fn input_number(fault: InputFault) -> u64
     match fault {
         InputFault::Times(fault) => fault.number(),
         InputFault::Certificate(fault) => fault.number() as u64,
+        InputFault::Counts(fault) => fault.number() as u64,
     }
 }
 
@@ -68,6 +72,7 @@ fn push_tail(page: &mut Page, fault: InputFault)
     match fault {
         InputFault::Times(fault) => push_times_tail(page, fault),
         InputFault::Certificate(fault) => push_certificate_tail(page, fault),
+        InputFault::Counts(fault) => push_counts_tail(page, fault),
     }
 }
 
@@ -96,5 +101,20 @@ fn push_certificate_tail(page: &mut Page, fault: CertFault)
         | CertFault::NotIncreasing(line)
         | CertFault::PlaceTooLarge(line)
         | CertFault::NotWhole(line) => push_value(page, line as u64),
+    }
+}
+
+fn push_counts_tail(page: &mut Page, fault: CountsFault)
+    requires { 40 ≤ page.old.spare }
+    ensures written { page.new.written ≡ page.old.written ++ counts_tail fault }
+    ensures room { page.old.spare ≤ page.new.spare + 40 }
+{
+    match fault {
+        CountsFault::TooLong | CountsFault::BadHeader | CountsFault::NoMemory => {}
+        CountsFault::BadRow(n)
+        | CountsFault::UnknownTask(n)
+        | CountsFault::TooManyPoints(n)
+        | CountsFault::TotalTooLarge(n) => push_value(page, n as u64),
+        CountsFault::TooMuchWork(work) => push_value(page, work),
     }
 }

@@ -2,6 +2,7 @@
 #![tactic(auto)]
 
 mod commands;
+mod counts;
 mod ending;
 mod input;
 mod leave;

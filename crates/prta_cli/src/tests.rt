@@ -1,6 +1,7 @@
 //! Runs over memory. The expected texts are worked from the definitions, by hand or by an independent program.
 
 mod certificates;
+mod counts;
 mod orders;
 mod reports;
 mod sheets;
@@ -9,6 +10,7 @@ mod traces;
 use crate::run::run;
 use crate::status::Status;
 use certificates::{CERTIFICATES, CUT_REFUSALS, LEFT, LEFT_CERTIFICATE, LEFT_STEADY, VERDICTS};
+use counts::{COUNTED, COUNTS, FIRST_AMOUNTS, FIRST_GENERATED, GENERATED, MEASURED, ONCE};
 use orders::{ABOVE, ABOVE_ORDER, ORDERS};
 use prta_outside::{MemoryShelf, MemorySink};
 use reports::{
@@ -54,6 +56,8 @@ const ASSIGN_WORDS: &[&str] = &["assign", NAME];
 const VERIFY_WORDS: &[&str] = &["verify", NAME, SECOND];
 
 const TRACE_WORDS: &[&str] = &["simulate", NAME, SECOND];
+
+const IMPORT_WORDS: &[&str] = &["import", NAME, SECOND];
 
 // Nothing fails.
 const SERVED: Case = Case {
@@ -120,6 +124,35 @@ const TRACED: Case = Case {
     ..SERVED
 };
 
+// The numbers for a spreadsheet.
+const RECORDED: Case = Case {
+    words: &["analyse", NAME, "--csv"],
+    out: "task,job,release,deadline,lower,upper\nA,0,0,5,288230376151711744,288230376151711744\n",
+    ..SERVED
+};
+
+const IMPORTED: Case = Case {
+    words: IMPORT_WORDS,
+    sheet: ONCE,
+    second: Text::Given(COUNTS),
+    out: COUNTED,
+    ..SERVED
+};
+
+// No file is read.
+const MADE: Case = Case {
+    words: &["generate", "1", "1"],
+    failing_read: 1,
+    out: FIRST_GENERATED,
+    ..SERVED
+};
+
+const SUMMED: Case = Case {
+    words: &["bench", "1", "1"],
+    out: FIRST_AMOUNTS,
+    ..MADE
+};
+
 const USAGE: Case = Case {
     status: Status::Usage,
     out: "",
@@ -160,7 +193,7 @@ const TIMES_REFUSAL: Case = Case {
 };
 
 // Words that are no command.
-static OTHER_COMMANDS: [&[&str]; 18] = [
+static OTHER_COMMANDS: [&[&str]; 34] = [
     &[],
     &["analyse"],
     &["analyze", NAME],
@@ -179,6 +212,22 @@ static OTHER_COMMANDS: [&[&str]; 18] = [
     &["simulate", NAME],
     &["simulate", NAME, SECOND, SECOND],
     &["analyse", NAME, SECOND, SECOND],
+    &["analyse", "-s.toml"],
+    &["analyse", "--fast", NAME],
+    &["analyse", "--csv", NAME, "--csv"],
+    &["analyse", "--csv"],
+    &["analyse", "--", NAME, "--csv"],
+    &["--", "analyse", NAME],
+    &["ledger", "--csv", NAME],
+    &["check", "--help"],
+    &["import", NAME],
+    &["import", NAME, SECOND, SECOND],
+    &["generate", "1"],
+    &["generate", "01", "1"],
+    &["generate", "1", "13"],
+    &["generate", "1", "0"],
+    &["generate", "18446744073709551616", "1"],
+    &["bench", "1", "x"],
 ];
 
 // Faults of the shelf and faults of the sinks.
@@ -186,7 +235,7 @@ static CASES: [Case; 33] = [
     SERVED,
     // A name that begins with '-'.
     Case {
-        words: &["analyse", "-s.toml"],
+        words: &["analyse", "--", "-s.toml"],
         name: "-s.toml",
         ..SERVED
     },
@@ -294,7 +343,7 @@ static CASES: [Case; 33] = [
         ..TIMES_REFUSAL
     },
     Case {
-        words: &["simulate", "-s.toml", SECOND],
+        words: &["simulate", "--", "-s.toml", SECOND],
         name: "-s.toml",
         ..TRACED
     },
@@ -386,14 +435,88 @@ static LATER_CASES: [Case; 14] = [
     },
 ];
 
+// The same for the commands on records, counts and seeds.
+static NEWEST_CASES: [Case; 16] = [
+    RECORDED,
+    Case {
+        words: &["analyse", "--csv", NAME],
+        most: 10,
+        err_room: 0,
+        ..RECORDED
+    },
+    Case {
+        words: &["analyse", "--csv", NAME],
+        ..UNREAD
+    },
+    Case {
+        words: &["analyse", "--csv", "--", "--csv"],
+        name: "--csv",
+        ..RECORDED
+    },
+    IMPORTED,
+    Case {
+        most: 10,
+        failing_read: 3,
+        err_room: 0,
+        ..IMPORTED
+    },
+    Case {
+        words: IMPORT_WORDS,
+        ..UNREAD
+    },
+    Case {
+        words: IMPORT_WORDS,
+        failing_read: 2,
+        ..UNREAD
+    },
+    Case {
+        words: &["import", NAME, "t"],
+        failing_read: 0,
+        ..UNREAD
+    },
+    Case {
+        words: &["import", NAME, NAME],
+        status: Status::InputRefused,
+        out: "",
+        err: "prta: input refused 2\n",
+        ..IMPORTED
+    },
+    Case {
+        words: IMPORT_WORDS,
+        sheet: ONCE,
+        second: Text::Given(COUNTS),
+        out: "format = 1",
+        ..UNWRITTEN
+    },
+    MADE,
+    Case {
+        most: 10,
+        err_room: 0,
+        ..SUMMED
+    },
+    SUMMED,
+    Case {
+        words: &["generate", "1", "1"],
+        out: "format = 1",
+        ..UNWRITTEN
+    },
+    Case {
+        words: &["bench", "1", "1"],
+        out: "prta bench",
+        ..UNWRITTEN
+    },
+];
+
 // The other commands, with nothing to read but the sheet.
-static OTHER_WORDS: [&[&str]; 6] = [
+static OTHER_WORDS: [&[&str]; 8] = [
     LEDGER_WORDS,
     CHECK_WORDS,
     CERTIFY_WORDS,
     ASSIGN_WORDS,
     &["verify", NAME, "t"],
     &["simulate", NAME, "t"],
+    &["import", NAME, "t"],
+    &["analyse", NAME, "--csv"],
 ];
 
 const MANY_ANALYSED: Case = Case {
@@ -503,6 +626,14 @@ fn every_case_ends_so(rt: HostRuntime) -> Result<(), Fail> {
 #[test]
 fn every_later_case_ends_so(rt: HostRuntime) -> Result<(), Fail> {
     for (i, case) in LATER_CASES.iter().enumerate() {
+        assert!(rt; ends_so(rt.alloc(), case)?, "case {i}");
+    }
+    Ok(())
+}
+
+#[test]
+fn every_newest_case_ends_so(rt: HostRuntime) -> Result<(), Fail> {
+    for (i, case) in NEWEST_CASES.iter().enumerate() {
         assert!(rt; ends_so(rt.alloc(), case)?, "case {i}");
     }
     Ok(())
@@ -649,8 +780,38 @@ fn every_file_of_times_ends_so(rt: HostRuntime) -> Result<(), Fail> {
 }
 
 #[test]
+fn every_file_of_counts_ends_so(rt: HostRuntime) -> Result<(), Fail> {
+    for (i, (sheet, counts, status, text)) in MEASURED.iter().enumerate() {
+        let case = Case {
+            sheet: *sheet,
+            second: *counts,
+            ..ending(IMPORTED, *status, text)
+        };
+        assert!(rt; ends_so(rt.alloc(), &case)?, "counts {i}");
+    }
+    Ok(())
+}
+
+// A seed makes the same sheet, and its analysis the same sums, each time.
+#[test]
+fn every_seed_ends_so(rt: HostRuntime) -> Result<(), Fail> {
+    for (i, (words, text)) in GENERATED.iter().enumerate() {
+        let case = Case {
+            words,
+            out: text,
+            ..MADE
+        };
+        assert!(rt; ends_so(rt.alloc(), &case)?, "seed {i}");
+        assert!(rt; ends_so(rt.alloc(), &case)?, "seed {i} again");
+    }
+    Ok(())
+}
+
+#[test]
 fn a_full_out_has_a_prefix(rt: HostRuntime) -> Result<(), Fail> {
-    for served in [SERVED, LEDGER, CHECKED, PASSED, CERTIFIED, VERIFIED, TRACED] {
+    for served in [
+        SERVED, RECORDED, LEDGER, CHECKED, PASSED, CERTIFIED, VERIFIED, TRACED, IMPORTED, SUMMED,
+    ] {
         let text = served.out.as_bytes();
         for room in 0..text.len() {
             let (status, out, err) = run_of(rt.alloc(), &Case { room, ..served })?;

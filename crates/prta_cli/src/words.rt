@@ -1,75 +1,157 @@
-//! The words of the command line, read by hand.
+//! The words of the command line: the first by hand, the others by `clap`.
 
-ghost use Rattle.std.specs.Prelude.{◌≡◌, option_map};
-ghost use Rattle.prta_cli.specs.Words.{texts, command, command_of, sheet_command, two_file_command, sheet_name};
+ghost use Rattle.std.specs.Prelude.{◌≡◌, ◌≤◌, Some, None, IfOk, IfErr};
+ghost use Rattle.prta_words.specs.Words.{texts};
+ghost use Rattle.prta_cli.specs.Words.{command, command_of, command_by, analyse_command, sheet_command, files_command, seed_command, seed_numbers, HasTasks};
 
-/// A command, with the names of the files that it reads.
+use prta_number::number_within;
+use prta_sheet::TASK_LIMIT;
+use prta_words::{WordsFault, one_word, sheet_words, two_words};
+use std::alloc::Global;
+
+/// What is asked of a sheet.
+#[derive(Clone, Copy)]
+pub enum SheetCommand {
+    Analyse,
+    AnalyseCsv,
+    Ledger,
+    Check,
+    Certify,
+    Assign,
+}
+
+/// What is asked of a sheet with a second file.
+#[derive(Clone, Copy)]
+pub enum FilesCommand {
+    Verify,
+    Simulate,
+    Import,
+}
+
+/// What is asked of a generated sheet.
+#[derive(Clone, Copy)]
+pub enum SeedCommand {
+    Generate,
+    Bench,
+}
+
+/// A command, with the names of the files that it reads, or with what makes its sheet.
 #[derive(Clone, Copy)]
 pub enum Command<'a> {
-    /// `analyse SHEET`
-    Analyse(&'a str),
-    /// `ledger SHEET`
-    Ledger(&'a str),
-    /// `check SHEET`
-    Check(&'a str),
-    /// `certify SHEET`
-    Certify(&'a str),
-    /// `assign SHEET`
-    Assign(&'a str),
-    /// `verify SHEET CERTIFICATE`
-    Verify(&'a str, &'a str),
-    /// `simulate SHEET TIMES`
-    Simulate(&'a str, &'a str),
-}
-
-impl<'a> Command<'a> {
     /// The name of the sheet.
-    pub fn sheet(&self) -> &'a str
-        ensures { result.now ≡ sheet_name (command_of self.now) }
-    {
-        match self {
-            Command::Analyse(sheet)
-            | Command::Ledger(sheet)
-            | Command::Check(sheet)
-            | Command::Certify(sheet)
-            | Command::Assign(sheet) => sheet,
-            Command::Verify(sheet, _) | Command::Simulate(sheet, _) => sheet,
-        }
-    }
+    OfSheet(&'a str, SheetCommand),
+    /// The names of the sheet and of the second file.
+    OfFiles(&'a str, &'a str, FilesCommand),
+    /// The seed and the number of tasks.
+    OfSeed(u64, usize, SeedCommand),
 }
 
-/// The command that the words are: its own word, and then as many names as it asks for.
-pub fn command_from(words: &[String]) -> Option<Command<'_>>
-    ensures { option_map command_of result ≡ command (texts words.now) }
+/// The command that the words are. It is Usage just where they are none.
+pub fn command_from<'a>(alloc: Global, words: &'a [String]) -> Result<Command<'a>, WordsFault>
+    ensures good { IfOk result (λ found. command (texts words.now) ≡ Some (command_of found)) }
+    ensures bad { IfErr result (λ fault. fault ≡ WordsFault.Usage → command (texts words.now) ≡ None) }
+    ensures tasks { IfOk result HasTasks }
 {
     match words {
-        [word, sheet] => of_sheet(word.as_str(), sheet.as_str()),
-        [word, sheet, second] => of_two_files(word.as_str(), sheet.as_str(), second.as_str()),
-        _ => None,
+        [word, rest @ ..] => command_by(alloc, word.as_str(), rest),
+        _ => Err(WordsFault::Usage),
     }
 }
 
-// A command that reads a sheet alone, by its word.
-fn of_sheet<'a>(word: &str, sheet: &'a str) -> Option<Command<'a>>
-    ensures { option_map command_of result ≡ sheet_command word.now sheet.now }
+// The command of a word with the words after it.
+fn command_by<'a>(alloc: Global, word: &str, rest: &'a [String]) -> Result<Command<'a>, WordsFault>
+    ensures good { IfOk result (λ found. command_by word.now (texts rest.now) ≡ Some (command_of found)) }
+    ensures bad { IfErr result (λ fault. fault ≡ WordsFault.Usage → command_by word.now (texts rest.now) ≡ None) }
+    ensures tasks { IfOk result HasTasks }
 {
     match word {
-        "analyse" => Some(Command::Analyse(sheet)),
-        "ledger" => Some(Command::Ledger(sheet)),
-        "check" => Some(Command::Check(sheet)),
-        "certify" => Some(Command::Certify(sheet)),
-        "assign" => Some(Command::Assign(sheet)),
-        _ => None,
+        "analyse" => analyse_command(alloc, rest),
+        "ledger" => sheet_command(alloc, SheetCommand::Ledger, rest),
+        "check" => sheet_command(alloc, SheetCommand::Check, rest),
+        "certify" => sheet_command(alloc, SheetCommand::Certify, rest),
+        "assign" => sheet_command(alloc, SheetCommand::Assign, rest),
+        "verify" => files_command(alloc, FilesCommand::Verify, rest),
+        "simulate" => files_command(alloc, FilesCommand::Simulate, rest),
+        "import" => files_command(alloc, FilesCommand::Import, rest),
+        "generate" => seed_command(alloc, SeedCommand::Generate, rest),
+        "bench" => seed_command(alloc, SeedCommand::Bench, rest),
+        _ => Err(WordsFault::Usage),
     }
 }
 
-// A command that reads a sheet and a second file, by its word.
-fn of_two_files<'a>(word: &str, sheet: &'a str, second: &'a str) -> Option<Command<'a>>
-    ensures { option_map command_of result ≡ two_file_command word.now sheet.now second.now }
+// The name of a sheet, and the flag for records.
+fn analyse_command<'a>(alloc: Global, rest: &'a [String]) -> Result<Command<'a>, WordsFault>
+    ensures good { IfOk result (λ found. analyse_command (texts rest.now) ≡ Some (command_of found)) }
+    ensures bad { IfErr result (λ fault. fault ≡ WordsFault.Usage → analyse_command (texts rest.now) ≡ None) }
+    ensures tasks { IfOk result HasTasks }
 {
-    match word {
-        "verify" => Some(Command::Verify(sheet, second)),
-        "simulate" => Some(Command::Simulate(sheet, second)),
-        _ => None,
+    match sheet_words(alloc, rest) {
+        Ok(read) if read.csv => Ok(Command::OfSheet(read.sheet, SheetCommand::AnalyseCsv)),
+        Ok(read) => Ok(Command::OfSheet(read.sheet, SheetCommand::Analyse)),
+        Err(fault) => Err(fault),
+    }
+}
+
+// The name of a sheet.
+fn sheet_command<'a>(
+    alloc: Global,
+    asked: SheetCommand,
+    rest: &'a [String],
+) -> Result<Command<'a>, WordsFault>
+    ensures good { IfOk result (λ found. sheet_command asked (texts rest.now) ≡ Some (command_of found)) }
+    ensures bad { IfErr result (λ fault. fault ≡ WordsFault.Usage → sheet_command asked (texts rest.now) ≡ None) }
+    ensures tasks { IfOk result HasTasks }
+{
+    match one_word(alloc, rest) {
+        Ok(sheet) => Ok(Command::OfSheet(sheet, asked)),
+        Err(fault) => Err(fault),
+    }
+}
+
+// The names of a sheet and of a second file.
+fn files_command<'a>(
+    alloc: Global,
+    asked: FilesCommand,
+    rest: &'a [String],
+) -> Result<Command<'a>, WordsFault>
+    ensures good { IfOk result (λ found. files_command asked (texts rest.now) ≡ Some (command_of found)) }
+    ensures bad { IfErr result (λ fault. fault ≡ WordsFault.Usage → files_command asked (texts rest.now) ≡ None) }
+    ensures tasks { IfOk result HasTasks }
+{
+    match two_words(alloc, rest) {
+        Ok(read) => Ok(Command::OfFiles(read.first, read.second, asked)),
+        Err(fault) => Err(fault),
+    }
+}
+
+// A seed and a number of tasks.
+fn seed_command<'a>(
+    alloc: Global,
+    asked: SeedCommand,
+    rest: &'a [String],
+) -> Result<Command<'a>, WordsFault>
+    ensures good { IfOk result (λ found. seed_command asked (texts rest.now) ≡ Some (command_of found)) }
+    ensures bad { IfErr result (λ fault. fault ≡ WordsFault.Usage → seed_command asked (texts rest.now) ≡ None) }
+    ensures tasks { IfOk result HasTasks }
+{
+    match two_words(alloc, rest) {
+        Ok(read) => seed_numbers(asked, read.first, read.second),
+        Err(fault) => Err(fault),
+    }
+}
+
+// The two numbers.
+fn seed_numbers<'a>(asked: SeedCommand, seed: &str, tasks: &str) -> Result<Command<'a>, WordsFault>
+    ensures good { IfOk result (λ found. seed_numbers asked seed.now tasks.now ≡ Some (command_of found)) }
+    ensures bad { IfErr result (λ fault. fault ≡ WordsFault.Usage → seed_numbers asked seed.now tasks.now ≡ None) }
+    ensures tasks { IfOk result HasTasks }
+{
+    let seed = match number_within(seed.as_bytes(), 0, u64::MAX) {
+        Some(seed) => seed,
+        None => return Err(WordsFault::Usage),
+    };
+    match number_within(tasks.as_bytes(), 1, TASK_LIMIT as u64) {
+        Some(tasks) => Ok(Command::OfSeed(seed, tasks as usize, asked)),
+        None => Err(WordsFault::Usage),
     }
 }

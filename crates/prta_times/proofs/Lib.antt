@@ -1,0 +1,12 @@
+pub mod RecordLists
+pub mod WithWeight
+pub mod CountedSums
+pub mod Threes
+pub mod GoodRows
+pub mod Counting
+pub mod First
+pub mod InRange
+pub mod Kept
+pub mod OnlyWork
+pub mod CountedAccepted
+pub mod Tested

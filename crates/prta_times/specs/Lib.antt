@@ -1,0 +1,4 @@
+pub mod Counts
+pub mod Parts
+pub mod Laws
+pub mod Worked
