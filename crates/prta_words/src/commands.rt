@@ -2,7 +2,7 @@
 
 ghost use Rattle.std.specs.Prelude.{◌≡◌, IfOk};
 ghost use Rattle.clap.specs.Simple.{app_of};
-ghost use Rattle.prta_words.specs.Commands.{analyse, bare, pair, single};
+ghost use Rattle.prta_words.specs.Commands.{analyse, bare, pair, single, triple};
 
 use clap::{Arg, ArgAction, Command};
 use std::alloc::{AllocError, Global};
@@ -51,4 +51,14 @@ pub(crate) fn pair_command<'a>(alloc: Global) -> Result<Command<'a>, AllocError>
         .required(true)
         .action(ArgAction::Set);
     bare_command(alloc).arg(first)?.arg(second)
+}
+
+// Three names.
+pub(crate) fn triple_command<'a>(alloc: Global) -> Result<Command<'a>, AllocError>
+    ensures { IfOk result (λ command. app_of command ≡ triple) }
+{
+    let third = Arg::new(alloc, "third")
+        .required(true)
+        .action(ArgAction::Set);
+    pair_command(alloc)?.arg(third)
 }

@@ -3,7 +3,7 @@
 ghost use Rattle.std.specs.Prelude.{◌≡◌, ◌∷◌, ◌==◌, [], IfErr, IfOk, false, true};
 ghost use Rattle.prta_words.specs.Words.{are_good, flag_count, positional_words, texts};
 
-use crate::commands::{pair_command, sheet_command, single_command};
+use crate::commands::{pair_command, sheet_command, single_command, triple_command};
 use crate::fault::{WordsFault, fault_from};
 use std::alloc::Global;
 
@@ -23,6 +23,17 @@ pub struct TwoWords<'a> {
     pub first: &'a str,
     /// The second word.
     pub second: &'a str,
+}
+
+/// Three words.
+#[derive(Clone, Copy, Debug)]
+pub struct ThreeWords<'a> {
+    /// The first word.
+    pub first: &'a str,
+    /// The second word.
+    pub second: &'a str,
+    /// The third word.
+    pub third: &'a str,
 }
 
 /// One word, and the flag `--csv` before or after it, at most once. Words after the first `--` are taken as they are;
@@ -79,4 +90,30 @@ pub fn two_words<'a>(alloc: Global, words: &'a [String]) -> Result<TwoWords<'a>,
         unreachable!()
     };
     Ok(TwoWords { first, second })
+}
+
+/// Three words, and no flag.
+pub fn three_words<'a>(alloc: Global, words: &'a [String]) -> Result<ThreeWords<'a>, WordsFault>
+    ensures good { IfOk result (λ read. (are_good false 3 (texts words.now) ≡ true)
+        × (positional_words false (texts words.now) ≡ read.first.now ∷ read.second.now ∷ read.third.now ∷ [])) }
+    ensures bad { IfErr result (λ fault. fault ≡ WordsFault.Usage → are_good false 3 (texts words.now) ≡ false) }
+{
+    let matches = match triple_command(alloc)?.try_get_matches_from(words) {
+        Ok(matches) => matches,
+        Err(error) => return Err(fault_from(&error)),
+    };
+    let Some(first) = matches.get_str("first") else {
+        unreachable!()
+    };
+    let Some(second) = matches.get_str("second") else {
+        unreachable!()
+    };
+    let Some(third) = matches.get_str("third") else {
+        unreachable!()
+    };
+    Ok(ThreeWords {
+        first,
+        second,
+        third,
+    })
 }

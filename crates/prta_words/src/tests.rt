@@ -1,6 +1,6 @@
 //! Tables of words, with what the rule of good words says of them, worked by hand.
 
-use crate::{WordsFault, one_word, sheet_words, two_words};
+use crate::{WordsFault, one_word, sheet_words, three_words, two_words};
 use std::alloc::Global;
 use std::test::Fail;
 
@@ -118,6 +118,23 @@ const ONES: [OneCase; 7] = [
     (&["-x"], None),
 ];
 
+// Words, and the three names that they give; none where they are not good.
+type ThreeCase = (
+    &'static [&'static str],
+    Option<(&'static str, &'static str, &'static str)>,
+);
+
+const THREES: [ThreeCase; 8] = [
+    (&["a", "b"], None),
+    (&["a", "b", "c"], Some(("a", "b", "c"))),
+    (&["a", "b", "c", "d"], None),
+    (&["a", "b", "-8"], None),
+    (&["a", "b", "--", "-8"], Some(("a", "b", "-8"))),
+    (&["a", "--", "b", "--"], Some(("a", "b", "--"))),
+    (&["a", "b", "c", "--csv"], None),
+    (&["", "-", ""], Some(("", "-", ""))),
+];
+
 fn words_of(alloc: Global, words: &[&str]) -> Result<Vec<String>, Fail> {
     let mut list = Vec::new(alloc);
     for word in words {
@@ -145,6 +162,19 @@ fn two_names(rt: HostRuntime) -> Result<(), Fail> {
         let list = words_of(rt.alloc(), words)?;
         let read = match two_words(rt.alloc(), &list) {
             Ok(read) => Ok((read.first, read.second)),
+            Err(fault) => Err(fault),
+        };
+        assert_eq!(rt; read, wanted.ok_or(WordsFault::Usage), "at {words:?}");
+    }
+    Ok(())
+}
+
+#[test]
+fn three_names(rt: HostRuntime) -> Result<(), Fail> {
+    for (words, wanted) in THREES {
+        let list = words_of(rt.alloc(), words)?;
+        let read = match three_words(rt.alloc(), &list) {
+            Ok(read) => Ok((read.first, read.second, read.third)),
             Err(fault) => Err(fault),
         };
         assert_eq!(rt; read, wanted.ok_or(WordsFault::Usage), "at {words:?}");
