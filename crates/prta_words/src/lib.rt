@@ -10,4 +10,6 @@ mod tests;
 
 pub use fault::WordsFault;
 pub use laws::worked_words;
-pub use reading::{SheetWords, ThreeWords, TwoWords, one_word, sheet_words, three_words, two_words};
+pub use reading::{
+    SheetWords, ThreeWords, TwoWords, one_word, sheet_words, three_words, two_words,
+};

@@ -1,0 +1,5 @@
+pub mod Eight
+pub mod Limbs
+pub mod Division
+pub mod Progress
+pub mod Worked

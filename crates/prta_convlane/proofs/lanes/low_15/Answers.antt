@@ -1,0 +1,5 @@
+use Rattle.prta_convlane.proofs.Eight.{lane_masked}
+use Rattle.prta_convlane.proofs.lanes.low_15.Goals as goal
+
+pub returns : goal.returns
+returns c j below = lane_masked 15 c.args.x j c.fits-x.0 below

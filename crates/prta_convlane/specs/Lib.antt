@@ -1,0 +1,4 @@
+pub mod Limbs
+pub mod Progress
+pub mod Laws
+pub mod Worked
