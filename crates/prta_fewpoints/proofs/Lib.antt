@@ -1,0 +1,10 @@
+pub mod Lists
+pub mod Covers
+pub mod Optional
+pub mod Least
+pub mod Reduction
+pub mod Moved
+pub mod Made
+pub mod Steps
+pub mod Places
+pub mod Faults

@@ -1,0 +1,111 @@
+//! Wide tables: the times of a task with their weights, before they are reduced.
+
+ghost use Rattle.std.specs.Prelude.{◌≡◌, ◌≢◌, ◌≤◌, Some, None, length, IfOk, IfErr, IsOk};
+ghost use Rattle.prta_mass.specs.Table.{total, zero_time, zero_weight, not_increasing};
+ghost use Rattle.prta_fewpoints.specs.Wide.{IsWide, wide_fault};
+
+use prta_mass::{TOTAL_LIMIT, TableFault};
+use std::alloc::Global;
+use std::marker::Model;
+
+/// A wide table has at most this many points.
+pub const WIDE_LIMIT: usize = 1024;
+
+/// The execution times of a task, rising, each with its weight, as in a time table, but up to `WIDE_LIMIT` of them.
+#[derive(Debug, Drop)]
+pub struct WideTable {
+    pairs: Vec<(u32, u64)>,
+}
+
+impl Model for WideTable {
+    ghost use Rattle.prta_mass.specs.Table.{Table};
+    ghost use Rattle.prta_fewpoints.specs.Wide.{IsWide};
+
+    ghost Value = { Table };
+
+    ghost view = { λ t. t.pairs.items };
+
+    ghost invariant = { λ t. IsWide t.pairs.items };
+}
+
+impl WideTable {
+    /// Makes a wide table of just these pairs of a time in ticks and a weight. The faults are those of a time table, in
+    /// the same order, but that `TooManyPoints` comes above `WIDE_LIMIT` pairs.
+    pub fn new(alloc: Global, pairs: &[(u32, u64)]) -> Result<WideTable, TableFault>
+        ensures made { IfOk result (λ wide. wide ≡ pairs.now) }
+        ensures accepted { IsOk result → wide_fault pairs.now ≡ None }
+        ensures refused { IfErr result (λ fault. fault ≢ TableFault.NoMemory → wide_fault pairs.now ≡ Some fault) }
+        ensures memory { result ≡ Err TableFault.NoMemory → wide_fault pairs.now ≡ None }
+    {
+        if let Some(fault) = first_fault(pairs) {
+            return Err(fault);
+        }
+        match Vec::from_slice(alloc, pairs) {
+            Ok(pairs) => Ok(WideTable { pairs }),
+            Err(_) => Err(TableFault::NoMemory),
+        }
+    }
+
+    /// The pairs of a time in ticks and its weight, by rising time.
+    pub fn pairs(&self) -> &[(u32, u64)]
+        ensures pairs { result.now ≡ self.now }
+        ensures wide { IsWide self.now }
+    {
+        &self.pairs
+    }
+}
+
+// The fault of the pairs, without memory.
+fn first_fault(pairs: &[(u32, u64)]) -> Option<TableFault>
+    ensures { result ≡ wide_fault pairs.now }
+{
+    if pairs.is_empty() {
+        return Some(TableFault::Empty);
+    }
+    if pairs.len() > WIDE_LIMIT {
+        return Some(TableFault::TooManyPoints(pairs.len()));
+    }
+    if let Some(i) = first_zero_time(pairs) {
+        return Some(TableFault::ZeroTime(i));
+    }
+    if let Some(i) = first_not_increasing(pairs) {
+        return Some(TableFault::NotIncreasing(i));
+    }
+    if let Some(i) = first_zero_weight(pairs) {
+        return Some(TableFault::ZeroWeight(i));
+    }
+    if total_of(pairs) > TOTAL_LIMIT as u128 {
+        return Some(TableFault::TotalTooLarge);
+    }
+    None
+}
+
+fn first_zero_time(pairs: &[(u32, u64)]) -> Option<usize>
+    ensures { result ≡ zero_time pairs.now }
+{
+    pairs.iter().position(|pair| pair.0 == 0)
+}
+
+fn first_zero_weight(pairs: &[(u32, u64)]) -> Option<usize>
+    ensures { result ≡ zero_weight pairs.now }
+{
+    pairs.iter().position(|pair| pair.1 == 0)
+}
+
+fn first_not_increasing(pairs: &[(u32, u64)]) -> Option<usize>
+    ensures { result ≡ not_increasing pairs.now }
+{
+    for i in 1..pairs.len() {
+        if pairs[i].0 <= pairs[i - 1].0 {
+            return Some(i);
+        }
+    }
+    None
+}
+
+fn total_of(pairs: &[(u32, u64)]) -> u128
+    requires { length pairs.now ≤ 1024 }
+    ensures { result ≡ total pairs.now }
+{
+    pairs.iter().map(|pair| pair.1 as u128).sum()
+}
