@@ -8,6 +8,7 @@ use Rattle.prta_mass.specs.Unit.{unit}
 use Rattle.prta_mass.specs.declared.direction.Dir.TheVariants.{Up}
 use Rattle.prta_mass.specs.Table.{Table, total, greatest, IsTable}
 use Rattle.prta_mass.specs.Chances.{at, before, cells_of, IsChances}
+use Rattle.prta_mass.proofs.Latest.{times_low}
 use Rattle.prta_sheet.specs.Sheet.{Task}
 use Rattle.prta_sheet.specs.Job.{Job, table_of}
 use Rattle.prta_shift.specs.Shift.{shifted}
@@ -15,7 +16,7 @@ use Rattle.prta_shift.proofs.Shifts.{reads_later}
 use Rattle.prta_dist.specs.Addition.{weighted, cell_added, added}
 use Rattle.prta_dist.proofs.Cells.{at_past, at_limited, length-cells_of, at-cells_of, last-cells_of}
 use Rattle.prta_dist.proofs.Chances.{divided_exact, keep_chances}
-use Rattle.prta_dist.proofs.Sums.{before_both, before_near, sum_most, sum_all, times_low}
+use Rattle.prta_dist.proofs.Sums.{before_both, before_near, sum_most, sum_all}
 use Rattle.prta_backlog.specs.LevelRun.{tables_added}
 use Rattle.prta_backlog.specs.Greatest.{greatest_times}
 use Rattle.prta_backlog.proofs.Chances.{length-added}

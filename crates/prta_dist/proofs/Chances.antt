@@ -11,11 +11,12 @@ use Rattle.prta_mass.specs.Chances.{at, last, before, point, IsChances}
 use Rattle.prta_mass.specs.Direction.{divided}
 use Rattle.prta_mass.specs.declared.direction.Dir.{Dir}
 use Rattle.prta_mass.specs.declared.direction.Dir.TheVariants.{Up, Down}
+use Rattle.prta_mass.proofs.Latest.{times_low}
 use Rattle.prta_dist.specs.Addition.{weighted, cell_added, cells_added, settled}
 use Rattle.prta_dist.specs.Curve.{lower, raise}
 use Rattle.prta_dist.specs.Laws.{AdditionsKeepChances}
 use Rattle.prta_dist.proofs.Cells.{at_rises, at_past, at_limited, last-cells_of, chances_of, chances_settled}
-use Rattle.prta_dist.proofs.Sums.{before_both, before_near, sum_most, sum_all, sum_rises, times_low}
+use Rattle.prta_dist.proofs.Sums.{before_both, before_near, sum_most, sum_all, sum_rises}
 
 -- ---- quotients
 

@@ -1,10 +1,8 @@
 -- Weighted sums over the pairs of a table.
-use Rattle.std.proofs.Common.{◌≡◌, ℕ, suc, ◌-◌, ◌*◌, ◌<◌, ◌≤◌, [], ◌∷◌, length, get_or, sum_by, All, refl, ap, arith, ⊎_elim, mul-le-mul_left}
-use Rattle.std.proofs.lemmas.List.{length-map, get_or-map}
-use Rattle.std.proofs.lemmas.List.Kept.{AllPairs-from_increasing}
+use Rattle.std.proofs.Common.{◌≡◌, ℕ, suc, ◌-◌, ◌*◌, ◌<◌, ◌≤◌, [], ◌∷◌, sum_by, All, refl, ap, arith, ⊎_elim, mul-le-mul_left}
 use Rattle.std.proofs.lemmas.List.Sums.{sum_by-cons, sum_by-le-sum_by}
 use Rattle.std.proofs.lemmas.Bool.{cases_lt, le-leb, lt-leb}
-use Rattle.prta_mass.specs.Table.{Table, total, times, greatest, IsTable}
+use Rattle.prta_mass.specs.Table.{Table, total}
 use Rattle.prta_mass.specs.Chances.{before}
 
 -- the sum over the pairs of the weight times what stands one time before place k
@@ -54,17 +52,3 @@ sum_all (pair ∷ table) f m h =
 
 pub sum_rises : (table : Table) (f g : ℕ → ℕ) → ((c : ℕ) → f c ≤ g c) → sum_by (λ pair. pair.1 * f pair.0) table ≤ sum_by (λ pair. pair.1 * g pair.0) table
 sum_rises table f g h = sum_by-le-sum_by (λ (p : ℕ × ℕ). p.1 * f p.0) (λ (p : ℕ × ℕ). p.1 * g p.0) table (λ pair. mul-le-mul_left pair.1 (h pair.0))
-
--- every time is at most the greatest
-pub times_low : (table : Table) → IsTable table → All (λ pair. pair.0 ≤ greatest table) table
-times_low table is i d h =
-    let n : ℕ = length table in
-    let time : (j : ℕ) (e : ℕ × ℕ) → j < n → get_or (times table) j 0 ≡ (get_or table j e).0 = λ j e l. get_or-map (λ (p : ℕ × ℕ). p.0) table j e 0 l in
-    ⊎_elim
-    (λ (l : i < n - 1).
-    let below : get_or (times table) i 0 < get_or (times table) (n - 1) 0 = AllPairs-from_increasing (times table) is.increasing i (n - 1) 0 l (omega (arith, length-map table (λ (p : ℕ × ℕ). p.0))) in
-    omega (arith, below, time i d h, time (n - 1) (0, 0) (omega arith)))
-    (λ (l : n - 1 ≤ i).
-    let e : i ≡ n - 1 = omega arith in
-    omega (arith, time i d h, time (n - 1) (0, 0) (omega arith), ap (λ j. get_or (times table) j 0) e))
-    (cases_lt i (n - 1))

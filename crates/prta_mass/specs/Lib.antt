@@ -2,8 +2,10 @@ pub mod Unit
 pub mod Decimal
 pub mod Direction
 pub mod Table
+pub mod Added
 pub mod Support
 pub mod Chances
 pub mod Passing
 pub mod Limits
 pub mod WorkedChances
+pub mod WorkedAdded

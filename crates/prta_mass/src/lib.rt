@@ -1,6 +1,7 @@
 //! Units of chance, time tables, lists of chances, and decimals that are rounded in a stated direction.
 #![tactic(auto)]
 
+mod added;
 mod chances;
 mod decimal;
 mod direction;
@@ -13,6 +14,7 @@ mod table;
 mod tests;
 mod unit;
 
+pub use added::{added_tables, worked_added};
 pub use chances::{passes, worked_chances};
 pub use decimal::{decimal_down, decimal_up};
 pub use direction::Dir;

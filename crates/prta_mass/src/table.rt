@@ -1,8 +1,10 @@
 //! Time tables: the times of a task with their weights.
 
-ghost use Rattle.std.specs.Prelude.{◌≡◌, ◌≢◌, ℕ, ◌+◌, ◌<◌, ◌≤◌, Some, None, length, IfOk, IfErr, IsOk};
+ghost use Rattle.std.specs.Prelude.{◌≡◌, ◌≢◌, ℕ, ◌+◌, ◌^◌, ◌<◌, ◌≤◌, Some, None, length, IfOk, IfErr, IsOk};
 ghost use Rattle.prta_mass.specs.Table.{Table, total, mean_times_total, greatest, zero_time, zero_weight, not_increasing, shape_fault, fault_of, IsTable, FaultlessPairs};
+ghost use Rattle.prta_mass.specs.Added.{with_added, IsWithAdded};
 
+use crate::added::put_added;
 use crate::divisor::Divisor;
 use crate::memory::NoMemory;
 use std::alloc::Global;
@@ -134,6 +136,16 @@ impl TimeTable {
         ensures table { IsTable self.now }
     {
         self.points[self.points.len() - 1].0
+    }
+
+    /// Makes the table, which is the base with some number added to each time, the base with `s` ticks added to each
+    /// time. The weights stay. It takes no memory.
+    pub fn set_added(&mut self, base: &TimeTable, s: u32)
+        requires same { IsWithAdded base.now self.old }
+        requires within { greatest base.now + s < 2 ^ 32 }
+        ensures { self.new ≡ with_added base.now s }
+    {
+        put_added(&mut self.points, &base.points, s);
     }
 }
 

@@ -51,6 +51,24 @@ fn pairs_of_no_table_have_their_first_fault(rt: HostRuntime) -> Result<(), Fail>
 }
 
 #[test]
+fn ticks_are_added_and_taken_off_again(rt: HostRuntime) -> Result<(), Fail> {
+    let base = TimeTable::new(rt.alloc(), &[(3, 9), (7, 1)])?;
+    let mut table = base.copy(rt.alloc())?;
+    // up to the greatest number of 32 bits
+    table.set_added(&base, 4_294_967_288);
+    let latest = [(4_294_967_291, 9), (4_294_967_295, 1)];
+    assert_eq!(rt; table.points(), latest.as_slice());
+    assert_eq!(rt; table.greatest(), 4_294_967_295);
+    table.set_added(&base, 2);
+    assert_eq!(rt; table.points(), [(5, 9), (9, 1)].as_slice());
+    assert_eq!(rt; table.total(), 10);
+    assert!(rt; table.divisor().divide(25) == (2, 5));
+    table.set_added(&base, 0);
+    assert_eq!(rt; table.points(), base.points());
+    Ok(())
+}
+
+#[test]
 fn support_points_are_fine_or_multiples_or_last(rt: HostRuntime) {
     let support = Support { fine: 2, step: 4 };
     let mut kept = [false; 10];

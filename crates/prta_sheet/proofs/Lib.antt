@@ -34,3 +34,7 @@ pub mod StatedDocument
 pub mod CanonicalLength
 pub mod RoundTrip
 pub mod Formats
+pub mod Changed
+pub mod AddedTicks
+pub mod Edited
+pub mod Numbered

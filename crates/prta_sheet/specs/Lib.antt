@@ -10,6 +10,8 @@ pub mod Laws
 pub mod Limits
 pub mod Worked
 pub mod Accepted
+pub mod Added
+pub mod WorkedAdded
 pub mod Document
 pub mod Canonical
 pub mod Format
@@ -19,6 +21,8 @@ pub mod SheetConditions
 pub mod Stated
 pub mod Reading
 pub mod Refusal
+pub mod Edits
+pub mod WorkedEdits
 pub mod RefusedSheets
 pub mod Formats
 pub mod RoundTrip

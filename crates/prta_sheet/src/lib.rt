@@ -1,9 +1,11 @@
 //! Sheets of tasks, and the model of the scheduled machine that all bounds are about.
 #![tactic(auto)]
 
+mod added;
 mod conditions;
 mod count;
 mod document;
+mod edit;
 mod fault;
 mod limits;
 mod making;
@@ -17,6 +19,8 @@ mod tests;
 mod text;
 mod work;
 
+pub use added::{added_sheets, worked_added_sheet};
+pub use edit::{Edit, EditFault, edits_keep_jobs, part_faults_are_numbered, worked_edits};
 pub use fault::{Key, Place, SheetFault};
 pub use limits::{
     CYCLE_LIMIT, JOB_LIMIT, NAME_LIMIT, PERIOD_LIMIT, SHEET_LIMIT, TASK_LIMIT, TIME_LIMIT,

@@ -49,7 +49,7 @@ pub fn make_sheet(settings: Settings, tasks: Vec<Task>) -> Result<Sheet, SheetFa
 }
 
 // The hyperperiod of parts that meet all conditions, or the first one that fails.
-fn accepted_hyperperiod(settings: Settings, tasks: &[Task]) -> Result<u64, SheetFault>
+pub(crate) fn accepted_hyperperiod(settings: Settings, tasks: &[Task]) -> Result<u64, SheetFault>
     ensures hyperperiod { IfOk result (λ n. n ≡ hyperperiod_of tasks.now) }
     ensures accepted { IsOk result → part_fault (record { settings = settings; tasks = tasks.now }) ≡ None }
     ensures refused { IfErr result (λ fault. part_fault (record { settings = settings; tasks = tasks.now }) ≡ Some fault) }

@@ -1,16 +1,21 @@
 //! Sheets.
 
-ghost use Rattle.std.specs.Prelude.{◌≡◌, ◌<◌, length, IfOk};
-ghost use Rattle.prta_sheet.specs.Sheet.{hyperperiod as hyperperiod_of, horizon};
+ghost use Rattle.std.specs.Prelude.{◌≡◌, ℕ, ◌<◌, ◌≤◌, None, Some, length, IsOk, IfOk, IfErr, OnOk, OnErr};
+ghost use Rattle.prta_sheet.specs.Sheet.{task_at, hyperperiod as hyperperiod_of, horizon};
 ghost use Rattle.prta_sheet.specs.Counts.{job_count, all_jobs};
 ghost use Rattle.prta_sheet.specs.Work.{work};
 ghost use Rattle.prta_sheet.specs.Accepted.{IsAccepted};
+ghost use Rattle.prta_sheet.specs.Added.{sheet_with_added, IsSheetWithAdded, room};
+ghost use Rattle.prta_sheet.specs.Edits.{task_of, edited, edit_fault};
 
+use crate::added::{added_sheets, greatest_of};
 use crate::count::count_jobs;
+use crate::edit::{Edit, EditFault, edit_tasks, edits_keep_jobs};
+use crate::limits::TIME_LIMIT;
 use crate::settings::Settings;
 use crate::task::Task;
 use crate::work::work_of;
-use prta_mass::NoMemory;
+use prta_mass::{NoMemory, faultless_pairs};
 use std::alloc::Global;
 use std::marker::Model;
 
@@ -106,6 +111,47 @@ impl Sheet {
             tasks,
             hyperperiod: self.hyperperiod,
         })
+    }
+
+    /// Makes the edit: puts the table in the place of the cycle's, or sets the deadline or the allowance. It is refused
+    /// with NoTable where the task's cycle has no table of that index; else with the number of the first condition, in
+    /// the order in which `make_sheet` tests them, that the edited sheet fails. A refused edit is dropped, and the sheet
+    /// is as it was. The hyperperiod and the numbers of jobs stay. It takes no memory.
+    pub fn edit(&mut self, edit: Edit) -> Result<(), EditFault>
+        requires task { task_of edit < length self.old.tasks }
+        ensures edited { OnOk result (self.new ≡ edited edit self.old) }
+        ensures accepted { IsOk result → edit_fault edit self.old ≡ None }
+        ensures refused { IfErr result (λ fault. edit_fault edit self.old ≡ Some fault) }
+        ensures unchanged { OnErr result (self.new ≡ self.old) }
+        ensures hyperperiod { hyperperiod_of self.new.tasks ≡ hyperperiod_of self.old.tasks }
+        ensures jobs { (i : ℕ) → job_count self.new i ≡ job_count self.old i }
+    {
+        faultless_pairs();
+        edits_keep_jobs();
+        match edit_tasks(self.settings, &mut self.tasks, edit) {
+            Ok(()) => Ok(()),
+            Err(fault) => Err(fault),
+        }
+    }
+
+    /// How many ticks may be added to each time of the task's tables before one is above `TIME_LIMIT`.
+    pub fn room(&self, task: usize) -> u32
+        requires { task < length self.now.tasks }
+        ensures { result ≡ room (task_at self.now.tasks task) }
+    {
+        TIME_LIMIT - greatest_of(self.tasks[task].cycle())
+    }
+
+    /// Makes the sheet, which is the base with some number added to the task, the base with `s` ticks added to each time
+    /// of each table of the task's cycle. There is room for `s`: no time goes above `TIME_LIMIT`. It takes no memory.
+    pub fn set_added(&mut self, base: &Sheet, task: usize, s: u32)
+        requires task { task < length base.now.tasks }
+        requires same { IsSheetWithAdded base.now task self.old }
+        requires room { s ≤ room (task_at base.now.tasks task) }
+        ensures { self.new ≡ sheet_with_added base.now task s }
+    {
+        added_sheets();
+        self.tasks[task].set_added(&base.tasks[task], s);
     }
 
     // The sheet of parts that meet all conditions.

@@ -1,11 +1,15 @@
 //! Tasks.
 
-ghost use Rattle.std.specs.Prelude.{◌≡◌, ◌≤◌, length, IfOk};
+ghost use Rattle.std.specs.Prelude.{◌≡◌, ◌+◌, ◌^◌, ◌<◌, ◌≤◌, [], length, slice_index_or, slice_set, All, IfOk};
+ghost use Rattle.prta_mass.specs.Table.{greatest};
 ghost use Rattle.prta_sheet.specs.Sheet.{table_in};
+ghost use Rattle.prta_sheet.specs.Added.{task_with_added, IsTaskWithAdded};
 
+use crate::added::put_added;
 use prta_mass::{NoMemory, TimeTable};
 use std::alloc::Global;
 use std::marker::Model;
+use std::mem;
 
 /// A periodic task: when it releases jobs, by when they are to finish, and how long they take.
 #[derive(Debug, Drop)]
@@ -118,6 +122,40 @@ impl Task {
         ensures { result ≡ self.now.allow }
     {
         self.allow
+    }
+
+    // Puts the table in a place of the cycle, and gives the one that stood there.
+    pub(crate) fn put_table(&mut self, index: usize, table: TimeTable) -> TimeTable
+        requires { index < length self.old.cycle }
+        ensures after { self.new ≡ record self.old { cycle = slice_set self.old.cycle index table } }
+        ensures before { result ≡ slice_index_or self.old.cycle index [] }
+    {
+        mem::replace(&mut self.cycle[index], table)
+    }
+
+    // Sets the deadline, and gives the one before.
+    pub(crate) fn put_deadline(&mut self, deadline: u32) -> u32
+        ensures after { self.new ≡ record self.old { deadline = deadline } }
+        ensures before { result ≡ self.old.deadline }
+    {
+        mem::replace(&mut self.deadline, deadline)
+    }
+
+    // Sets the allowance, and gives the one before.
+    pub(crate) fn put_allow(&mut self, allow: (u64, u64)) -> (u64, u64)
+        ensures after { self.new ≡ record self.old { allow = allow } }
+        ensures before { result ≡ self.old.allow }
+    {
+        mem::replace(&mut self.allow, allow)
+    }
+
+    // Makes the task, which is the base with some number added, the base with s ticks added.
+    pub(crate) fn set_added(&mut self, base: &Task, s: u32)
+        requires same { IsTaskWithAdded base.now self.old }
+        requires within { All (λ table. greatest table + s < 2 ^ 32) base.now.cycle }
+        ensures { self.new ≡ task_with_added base.now s }
+    {
+        put_added(&mut self.cycle, &base.cycle, s);
     }
 }
 

@@ -49,24 +49,35 @@ pub const QUARTER_TASK: Parts = Parts {
     allow: (0, 1),
 };
 
-pub const PAIR: &[Parts] = &[
-    Parts {
-        name: "A",
-        offset: 0,
-        period: 4,
-        deadline: 4,
-        cycle: &[&[(1, 1), (2, 1)]],
-        allow: (0, 1),
-    },
-    Parts {
-        name: "B",
-        offset: 0,
-        period: 8,
-        deadline: 7,
-        cycle: &[&[(2, 1), (4, 1)]],
-        allow: (0, 1),
-    },
-];
+pub const UPPER: Parts = Parts {
+    name: "A",
+    offset: 0,
+    period: 4,
+    deadline: 4,
+    cycle: &[&[(1, 1), (2, 1)]],
+    allow: (0, 1),
+};
+
+pub const LOWER: Parts = Parts {
+    name: "B",
+    offset: 0,
+    period: 8,
+    deadline: 7,
+    cycle: &[&[(2, 1), (4, 1)]],
+    allow: (0, 1),
+};
+
+pub const PAIR: &[Parts] = &[UPPER, LOWER];
+
+// Two tables in turn.
+pub const IN_TURN: Parts = Parts {
+    name: "A",
+    offset: 0,
+    period: 5,
+    deadline: 5,
+    cycle: &[&[(3, 1), (6, 1)], &[(2, 1)]],
+    allow: (0, 1),
+};
 
 static STATED: [Stated; 5] = [
     Stated {
@@ -126,14 +137,7 @@ static STATED: [Stated; 5] = [
     Stated {
         text: "format = 2\n[[task]]\nname = \"A\"\nperiod = 5\ndeadline = 5\ncycle = [[[3, 1], [6, 1]], [[2, 1]]]\n",
         settings: DEFAULTS,
-        tasks: &[Parts {
-            name: "A",
-            offset: 0,
-            period: 5,
-            deadline: 5,
-            cycle: &[&[(3, 1), (6, 1)], &[(2, 1)]],
-            allow: (0, 1),
-        }],
+        tasks: &[IN_TURN],
         hyperperiod: 10,
         horizon: 10,
         jobs: &[2],
@@ -230,7 +234,7 @@ fn has_jobs(sheet: &Sheet, jobs: &[usize]) -> bool {
     sheet.tasks().len() == jobs.len()
 }
 
-fn has_tasks(sheet: &Sheet, tasks: &[Parts]) -> bool {
+pub fn has_tasks(sheet: &Sheet, tasks: &[Parts]) -> bool {
     for (task, want) in sheet.tasks().iter().zip(tasks) {
         if !has_parts(task, want) {
             return false;

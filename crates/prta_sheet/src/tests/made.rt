@@ -248,7 +248,7 @@ fn parts_have_their_answer(rt: HostRuntime) -> Result<(), Fail> {
 }
 
 // Copies, so that those are tried too.
-fn tasks_of(alloc: Global, parts: &[Parts]) -> Result<Vec<Task>, Fail> {
+pub fn tasks_of(alloc: Global, parts: &[Parts]) -> Result<Vec<Task>, Fail> {
     let mut tasks = Vec::new(alloc);
     for part in parts {
         let task = task_of(alloc, part)?;
