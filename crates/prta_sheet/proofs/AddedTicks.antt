@@ -1,7 +1,7 @@
 -- Ticks that are added to each time of a task.
-use Rattle.std.proofs.Common.{◌≡◌, ℕ, zero, suc, ◌+◌, ◌-◌, ◌%◌, ◌<◌, ◌≤◌, max, Bool, true, false, nat_eq, if◌then◌else◌, List, [], ◌∷◌, length, get_or, set, map, fold, All, refl, ap, ap₂, sym, ◌∙◌, subst, arith, inl, inr}
+use Rattle.std.proofs.Common.{◌≡◌, ℕ, zero, suc, ◌+◌, ◌%◌, ◌<◌, ◌≤◌, max, Bool, true, false, nat_eq, if◌then◌else◌, List, [], ◌∷◌, length, get_or, set, map, fold, All, refl, ap, sym, ◌∙◌, arith}
 use Rattle.std.proofs.lemmas.Bool.{eqb-true, eqb-false}
-use Rattle.std.proofs.lemmas.List.{length-map, length-set, get_or-set_same, get_or-set_other}
+use Rattle.std.proofs.lemmas.List.{length-map, length-set, get_or-set_same, get_or-set_other, set-set}
 use Rattle.std.proofs.lemmas.List.Elements.{All-set, All-map}
 use Rattle.prta_mass.specs.Table.{Table, IsTable, greatest}
 use Rattle.prta_mass.specs.Added.{with_added}
@@ -32,16 +32,19 @@ all_within : (limit n : ℕ) (tables : List Table) → n ≤ limit → All (λ t
 all_within limit n [] start h = start
 all_within limit n (table ∷ tables) start h = all_within limit (max n (greatest table)) tables (omega (arith, h 0 table (omega arith))) (λ k d low. h (suc k) d (omega arith))
 
+pub greatest_low : (task : Task) → All (λ table. greatest table ≤ TIME_LIMIT) task.cycle → greatest_time task ≤ TIME_LIMIT
+greatest_low task times = all_within TIME_LIMIT 0 task.cycle (omega arith) times
+
 -- within its room a task's times stay at most the limit
 pub times_within : (task : Task) (s : ℕ) → All (λ table. greatest table ≤ TIME_LIMIT) task.cycle → s ≤ room task → All (λ table. greatest table + s ≤ TIME_LIMIT) task.cycle
 times_within task s times fits k d low =
-    let most : greatest_time task ≤ TIME_LIMIT = all_within TIME_LIMIT 0 task.cycle (omega arith) times in
+    let most : greatest_time task ≤ TIME_LIMIT = greatest_low task times in
     omega (arith, most, fits, each_low 0 task.cycle k d low)
 
 -- ---- a task
 
 -- the table of a place of a cycle, empty where there is none
-place_added : (s : ℕ) (cycle : List Table) (k : ℕ) → get_or (map (λ table. with_added table s) cycle) k [] ≡ with_added (get_or cycle k []) s
+pub place_added : (s : ℕ) (cycle : List Table) (k : ℕ) → get_or (map (λ table. with_added table s) cycle) k [] ≡ with_added (get_or cycle k []) s
 place_added s [] k = refl
 place_added s (table ∷ cycle) zero = refl
 place_added s (table ∷ cycle) (suc k) = place_added s cycle k
@@ -148,3 +151,14 @@ module _ (sheet : Sheet) (i s : ℕ) (is : IsAccepted sheet) (low : i < length s
 
 pub added_sheets : AddedSheets
 added_sheets sheet i s is low fits = keeps_added sheet i s is low fits
+
+-- a sheet with one number added, in which the task gets another one
+pub added_anew : (sheet base : Sheet) (i r s : ℕ) (x : Task) → sheet ≡ sheet_with_added base i r → x ≡ task_with_added (task_at base.tasks i) s →
+    ◌≡◌ {A = Sheet} (record { settings = sheet.settings; tasks = set sheet.tasks i x }) (sheet_with_added base i s)
+added_anew sheet base i r s x before now =
+    ap (λ (sheet : Sheet). record sheet { tasks = set sheet.tasks i x }) before
+    ∙ ap (λ (tasks : List Task). record base { tasks = tasks }) (set-set base.tasks i (task_with_added (task_at base.tasks i) r) x ∙ ap (set base.tasks i) now)
+
+-- what is read at the place of the task
+pub read_added : (sheet base : Sheet) (i r : ℕ) (d : Task) → i < length base.tasks → sheet ≡ sheet_with_added base i r → get_or sheet.tasks i d ≡ task_with_added (task_at base.tasks i) r
+read_added sheet base i r d low before = ap (λ (sheet : Sheet). get_or sheet.tasks i d) before ∙ get_or-set_same base.tasks i (task_with_added (task_at base.tasks i) r) d low

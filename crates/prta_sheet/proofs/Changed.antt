@@ -1,11 +1,9 @@
 -- A list of tasks in which one is changed: what the jobs, the hyperperiod and the work depend on.
-use Rattle.std.proofs.Common.{◌≡◌, ℕ, zero, suc, ◌+◌, ◌*◌, ◌<◌, ◌&&◌, not, nat_eq, nat_lt, List, [], ◌∷◌, ◌++◌, length, get_or, set, filter, fold, sum_by, refl, ap, ap₂, sym, ◌∙◌}
+use Rattle.std.proofs.Common.{◌≡◌, ℕ, zero, suc, ◌+◌, ◌*◌, ◌&&◌, not, nat_eq, nat_lt, List, [], ◌∷◌, ◌++◌, length, get_or, set, filter, fold, sum_by, refl, ap, ap₂, ◌∙◌}
 use Rattle.std.specs.List.{range_with_len}
-use Rattle.std.proofs.lemmas.List.{length-set}
-use Rattle.std.proofs.lemmas.List.Elements.{filter_agree}
 use Rattle.prta_sheet.specs.declared.settings.Settings.{Settings}
 use Rattle.prta_sheet.specs.Sheet.{Task, Sheet, task_at, cycle_ticks, least_common_multiple, hyperperiod, horizon}
-use Rattle.prta_sheet.specs.Job.{Job, table_of, deadline_of, released_by, released_at, jobs_before, analysed_jobs}
+use Rattle.prta_sheet.specs.Job.{Job, deadline_of, released_by, released_at, jobs_before, analysed_jobs}
 use Rattle.prta_sheet.specs.Counts.{job_count, all_jobs}
 use Rattle.prta_sheet.specs.Work.{points_of, between, job_work, task_work, work}
 use Rattle.prta_sheet.proofs.Sums.{sum_by-same}

@@ -1,9 +1,9 @@
 -- The conditions that a sheet of given parts can fail, by their numbers.
-use Rattle.std.proofs.Common.{◌≡◌, ℕ, ◌≤◌, Bool, true, false, not, ◌&&◌, nat_le, nat_lt, if◌then◌else◌, Option, Some, None, option_map, List, [], ◌∷◌, length, position, subst, arith}
-use Rattle.std.specs.List.{list_any, range_with_len}
+use Rattle.std.proofs.Common.{ℕ, ◌≤◌, Bool, true, false, nat_lt, if◌then◌else◌, Option, Some, None, option_map, List, [], ◌∷◌, length, subst, arith}
+use Rattle.std.specs.List.{range_with_len}
 use Rattle.prta_mass.specs.Table.{or_else, when}
 use Rattle.prta_mass.specs.declared.support.Support.{Support}
-use Rattle.prta_sheet.specs.declared.limits.TheConstants.{CYCLE_LIMIT}
+use Rattle.prta_sheet.specs.declared.limits.TheConstants.{CYCLE_LIMIT, PERIOD_LIMIT, JOB_LIMIT}
 use Rattle.prta_sheet.specs.declared.settings.Settings.{Settings}
 use Rattle.prta_sheet.specs.declared.fault.Key.{Key}
 use Rattle.prta_sheet.specs.declared.fault.Key.TheVariants as key
@@ -11,10 +11,12 @@ use Rattle.prta_sheet.specs.declared.fault.Place.{Place}
 use Rattle.prta_sheet.specs.declared.fault.Place.TheVariants as place
 use Rattle.prta_sheet.specs.declared.fault.SheetFault.{SheetFault}
 use Rattle.prta_sheet.specs.declared.fault.SheetFault.TheVariants as fault
-use Rattle.prta_sheet.specs.Sheet.{Task, Sheet, task_at}
+use Rattle.prta_sheet.specs.Sheet.{Task, Sheet, task_at, hyperperiod}
+use Rattle.prta_sheet.specs.Counts.{all_jobs}
+use Rattle.prta_sheet.specs.Work.{work}
 use Rattle.prta_sheet.specs.Accepted.{is_good_name}
 use Rattle.prta_sheet.specs.DocumentConditions.{first_of}
-use Rattle.prta_sheet.specs.SheetConditions.{in_range, support_ranges, settings_ranges, cycle_range, allow_range, task_ranges, part_ranges, task_count, name_fault_at, name_fault, offset_fault, table_fault_at, table_fault, total_fault, deadline_fault, later_fault}
+use Rattle.prta_sheet.specs.SheetConditions.{in_range, support_ranges, settings_ranges, cycle_range, task_ranges, part_ranges, task_count, name_fault_at, name_fault, offset_fault, table_fault_at, table_fault, total_fault, deadline_fault, later_fault}
 use Rattle.prta_sheet.specs.Refusal.{number_of}
 use Rattle.prta_sheet.specs.Edits.{PartFaultsAreNumbered}
 
@@ -75,15 +77,15 @@ name tasks i = by (is_good_name (task_at tasks i).name)
 later : (sheet : Sheet) → IsNumbered (later_fault sheet)
 later sheet =
     let tasks : List Task = sheet.tasks in
-    either (task_count tasks) _ (tested _ _ (omega arith, omega arith))
+    either (task_count tasks) _ (tested _ (fault.TaskCount (length tasks)) (omega arith, omega arith))
     (either (name_fault tasks) _ (mapped (name_fault_at tasks) (name tasks) _)
     (either (offset_fault tasks) _ (mapped fault.OffsetNotBelowPeriod (λ i. (omega arith, omega arith)) _)
     (either (table_fault tasks) _ (along (table_fault_at tasks) (λ i. mapped (fault.BadTable i) (λ f. (omega arith, omega arith)) _) (range_with_len 0 (length tasks)))
     (either (total_fault tasks) _ (mapped fault.TotalTooLarge (λ i. (omega arith, omega arith)) _)
     (either (deadline_fault sheet.settings.cap tasks) _ (mapped fault.DeadlineNotBelowCap (λ i. (omega arith, omega arith)) _)
-    (either _ _ (tested _ fault.HyperperiodTooLarge (omega arith, omega arith))
-    (either _ _ (tested _ _ (omega arith, omega arith))
-    (tested _ _ (omega arith, omega arith)))))))))
+    (either (when (nat_lt PERIOD_LIMIT (hyperperiod tasks)) fault.HyperperiodTooLarge) _ (tested _ fault.HyperperiodTooLarge (omega arith, omega arith))
+    (either (when (nat_lt JOB_LIMIT (all_jobs sheet)) (fault.TooManyJobs (all_jobs sheet))) _ (tested _ (fault.TooManyJobs (all_jobs sheet)) (omega arith, omega arith))
+    (tested _ (fault.TooMuchWork (work sheet)) (omega arith, omega arith)))))))))
 
 pub part_faults_are_numbered : PartFaultsAreNumbered
 part_faults_are_numbered sheet f e =

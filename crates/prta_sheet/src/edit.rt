@@ -22,9 +22,16 @@ pub enum Edit {
         table: TimeTable,
     },
     /// Another relative deadline, in ticks.
-    Deadline { task: usize, value: u32 },
+    Deadline {
+        task: usize,
+        value: u32,
+    },
     /// Another allowance, p of q.
-    Allow { task: usize, p: u64, q: u64 },
+    Allow {
+        task: usize,
+        p: u64,
+        q: u64,
+    },
 }
 
 /// Why an edit is refused.

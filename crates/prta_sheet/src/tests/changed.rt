@@ -238,7 +238,10 @@ fn ticks_are_added_and_taken_off_again(rt: HostRuntime) -> Result<(), Fail> {
     for (s, tasks) in ADDED.iter() {
         assert!(rt; *s <= base.room(0), "{s}");
         sheet.set_added(&base, 0, *s);
-        assert!(rt; has_tasks(&sheet, tasks) && sheet.work() == base.work(), "{s}");
+        assert!(rt;
+            has_tasks(&sheet, tasks) && sheet.work() == base.work(),
+            "{s}"
+        );
     }
     Ok(())
 }
