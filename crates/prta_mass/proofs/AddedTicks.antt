@@ -12,7 +12,7 @@ use Rattle.prta_mass.proofs.Latest.{times_low}
 abbrev pub later : ℕ → ℕ × ℕ → ℕ × ℕ
 later s pair = (pair.0 + s, pair.1)
 
-added_none : (table : Table) → with_added table 0 ≡ table
+pub added_none : (table : Table) → with_added table 0 ≡ table
 added_none [] = refl
 added_none (pair ∷ table) = ap₂ (λ (p : ℕ × ℕ) (ps : Table). p ∷ ps) (ap (λ n. (n, pair.1)) (omega arith)) (added_none table)
 

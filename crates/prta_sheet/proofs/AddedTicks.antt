@@ -1,11 +1,11 @@
 -- Ticks that are added to each time of a task.
-use Rattle.std.proofs.Common.{◌≡◌, ℕ, zero, suc, ◌+◌, ◌%◌, ◌<◌, ◌≤◌, max, Bool, true, false, nat_eq, if◌then◌else◌, List, [], ◌∷◌, length, get_or, set, map, fold, All, refl, ap, sym, ◌∙◌, arith}
+use Rattle.std.proofs.Common.{◌≡◌, ℕ, zero, suc, ◌+◌, ◌%◌, ◌<◌, ◌≤◌, max, Bool, true, false, nat_eq, if◌then◌else◌, List, [], ◌∷◌, length, get_or, set, map, fold, All, refl, ap, ap₂, sym, ◌∙◌, arith}
 use Rattle.std.proofs.lemmas.Bool.{eqb-true, eqb-false}
-use Rattle.std.proofs.lemmas.List.{length-map, length-set, get_or-set_same, get_or-set_other, set-set}
+use Rattle.std.proofs.lemmas.List.{length-map, length-set, get_or-set_same, get_or-set_other, set-set, set-get_or}
 use Rattle.std.proofs.lemmas.List.Elements.{All-set, All-map}
 use Rattle.prta_mass.specs.Table.{Table, IsTable, greatest}
 use Rattle.prta_mass.specs.Added.{with_added}
-use Rattle.prta_mass.proofs.AddedTicks.{later, greatest_added, IsTable-added}
+use Rattle.prta_mass.proofs.AddedTicks.{later, added_none, greatest_added, IsTable-added}
 use Rattle.prta_sheet.specs.declared.limits.TheConstants.{TIME_LIMIT}
 use Rattle.prta_sheet.specs.Sheet.{Task, Sheet, task_at, table_in, hyperperiod}
 use Rattle.prta_sheet.specs.Job.{Job, table_of, jobs_before}
@@ -116,6 +116,16 @@ module _ (tasks : List Task) (i s : ℕ) where
           ∙ ap (λ k. with_added (table_in (task_at tasks k) job.number) s) (sym same)
       by false e = ap (λ task. table_in task job.number) (get_or-set_other tasks i job.task (task_with_added own s) _ (eqb-false job.task i e))
 
+cycle_kept : (cycle : List Table) → map (λ table. with_added table 0) cycle ≡ cycle
+cycle_kept [] = refl
+cycle_kept (table ∷ cycle) = ap₂ (λ (t : Table) (ts : List Table). t ∷ ts) (added_none table) (cycle_kept cycle)
+
+none_added : (sheet : Sheet) (i : ℕ) → sheet_with_added sheet i 0 ≡ sheet
+none_added sheet i =
+    let own : Task = task_at sheet.tasks i in
+    ap (λ (cycle : List Table). record sheet { tasks = set sheet.tasks i (record own { cycle = cycle }) }) (cycle_kept own.cycle)
+    ∙ ap (λ (tasks : List Task). record sheet { tasks = tasks }) (set-get_or sheet.tasks i _)
+
 -- the same with the sheet accepted, and s within the room
 module _ (sheet : Sheet) (i s : ℕ) (is : IsAccepted sheet) (low : i < length sheet.tasks) (fits : s ≤ room (task_at sheet.tasks i)) where
   work_added : work (sheet_with_added sheet i s) ≡ work sheet
@@ -142,6 +152,7 @@ module _ (sheet : Sheet) (i s : ℕ) (is : IsAccepted sheet) (low : i < length s
 
   keeps_added : KeepsWithAdded sheet i s
   keeps_added = record {
+    none = none_added sheet i;
     accepted = accepted_added;
     same_hyperperiod = hyperperiod_added sheet.tasks i s;
     same_jobs = jobs_added sheet.tasks i s;

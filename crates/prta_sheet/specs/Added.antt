@@ -36,6 +36,8 @@ room task = TIME_LIMIT - greatest_time task
 
 -- what ticks that are added to a task within its room leave as it is
 pub record KeepsWithAdded (sheet : Sheet) (i s : ℕ) : Type 0 where
+  -- no ticks leave all
+  pub none : sheet_with_added sheet i 0 ≡ sheet
   pub accepted : IsAccepted (sheet_with_added sheet i s)
   pub same_hyperperiod : hyperperiod (tasks_with_added sheet.tasks i s) ≡ hyperperiod sheet.tasks
   pub same_jobs : (t : ℕ) → jobs_before (tasks_with_added sheet.tasks i s) t ≡ jobs_before sheet.tasks t

@@ -137,7 +137,8 @@ impl Sheet {
     /// How many ticks may be added to each time of the task's tables before one is above `TIME_LIMIT`.
     pub fn room(&self, task: usize) -> u32
         requires { task < length self.now.tasks }
-        ensures { result ≡ room (task_at self.now.tasks task) }
+        ensures room { result ≡ room (task_at self.now.tasks task) }
+        ensures accepted { IsAccepted self.now }
     {
         TIME_LIMIT - greatest_of(self.tasks[task].cycle())
     }

@@ -1,11 +1,13 @@
 //! Sheets that are edited, and sheets with ticks added to a task.
 
-ghost use Rattle.std.specs.Prelude.{◌≡◌, IfOk};
+ghost use Rattle.std.specs.Prelude.{◌≡◌, ◌<◌, ◌≤◌, length, IfOk};
+ghost use Rattle.prta_sheet.specs.Sheet.{task_at};
+ghost use Rattle.prta_sheet.specs.Added.{room};
 ghost use Rattle.prta_sheet.specs.Edits.{task_of};
 
 use super::accepted::{DEFAULTS, IN_TURN, LOWER, PAIR, Parts, QUARTER_TASK, UPPER, has_tasks};
 use super::made::tasks_of;
-use crate::{Edit, EditFault, Settings, Sheet, make_sheet};
+use crate::{Edit, EditFault, Settings, Sheet, added_sheets, make_sheet};
 use prta_mass::TimeTable;
 use std::alloc::Global;
 use std::test::Fail;
@@ -232,16 +234,28 @@ static ADDED: [(u32, &[Parts]); 4] = [
 #[test]
 fn ticks_are_added_and_taken_off_again(rt: HostRuntime) -> Result<(), Fail> {
     let base = made(rt.alloc(), DEFAULTS, &[IN_TURN])?;
-    let mut sheet = base.copy(rt.alloc())?;
     assert!(rt; base.tasks().len() == 1);
     assert_eq!(rt; base.room(0), 999_994);
     for (s, tasks) in ADDED.iter() {
         assert!(rt; *s <= base.room(0), "{s}");
-        sheet.set_added(&base, 0, *s);
+        let sheet = with_added(rt.alloc(), &base, *s)?;
         assert!(rt;
             has_tasks(&sheet, tasks) && sheet.work() == base.work(),
             "{s}"
         );
     }
     Ok(())
+}
+
+// The base with all of the first task's room added, and then with s ticks in its place.
+fn with_added(alloc: Global, base: &Sheet, s: u32) -> Result<Sheet, Fail>
+    requires task { 0 < length base.now.tasks }
+    requires room { s ≤ room (task_at base.now.tasks 0) }
+{
+    added_sheets();
+    let most = base.room(0);
+    let mut sheet = base.copy(alloc)?;
+    sheet.set_added(base, 0, most);
+    sheet.set_added(base, 0, s);
+    Ok(sheet)
 }
