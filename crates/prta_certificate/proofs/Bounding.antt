@@ -15,11 +15,11 @@ use Rattle.prta_certificate.specs.Certificate.{next_image}
 use Rattle.prta_certificate.specs.Laws.{CertifiedListsBound, SteadyNumbersHold}
 
 -- in Up what dominates a list that bounds a backlog bounds it too
-dominating_bounds : (tasks : List Task) (level : Level) (until t : ℕ) (cells below : List ℕ) → Dominates cells below → BoundsBacklog Up tasks level until t below → BoundsBacklog Up tasks level until t cells
+pub dominating_bounds : (tasks : List Task) (level : Level) (until t : ℕ) (cells below : List ℕ) → Dominates cells below → BoundsBacklog Up tasks level until t below → BoundsBacklog Up tasks level until t cells
 dominating_bounds tasks level until t cells below dominates claim k = le_trans (mul-le-mul_right (total_of (table_of tasks) (jobs_before tasks until)) (dominates k)) (claim k)
 
 -- every list of chances dominates the point at 0
-dominates_point : (cells : List ℕ) (cap : ℕ) → 0 < cap → IsChances cells → Dominates cells (point cap 0)
+pub dominates_point : (cells : List ℕ) (cap : ℕ) → 0 < cap → IsChances cells → Dominates cells (point cap 0)
 dominates_point cells cap some chances k = subst (λ x. at cells k ≤ x) (sym (at-point cap k some)) (at_limited cells k chances)
 
 -- so it bounds the empty backlog at time 0; and where a certifying list bounds the backlog at one hyperperiod, its image bounds that at the next, and so does the list

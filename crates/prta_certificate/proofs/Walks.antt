@@ -8,10 +8,10 @@ use Rattle.prta_backlog.specs.Greatest.{greatest_times, greatest_work, WalkState
 use Rattle.prta_backlog.proofs.Walks.{work_suc}
 
 module _ (tasks : List Task) (level : Level) where
-  abbrev times_at : ℕ → ℕ
+  abbrev pub times_at : ℕ → ℕ
   times_at t = greatest_times tasks (level_at tasks level t)
 
-  abbrev now : ℕ → ℕ → ℕ
+  abbrev pub now : ℕ → ℕ → ℕ
   now start t = backlog_now (greatest_walk tasks level start t) t
 
   since_low : (start t : ℕ) → (greatest_walk tasks level start t).since ≤ t
@@ -21,7 +21,7 @@ module _ (tasks : List Task) (level : Level) where
       cond_both (is_quiet tasks level t) walk (risen tasks level walk t) (λ w. w.since ≤ suc t) (λ e. omega (arith, since_low start t)) (λ e. omega arith)
 
   -- from one time to the next
-  now_suc : (start t : ℕ) → now start (suc t) ≡ now start t + times_at t - 1
+  pub now_suc : (start t : ℕ) → now start (suc t) ≡ now start t + times_at t - 1
   now_suc start t =
       let walk : WalkState = greatest_walk tasks level start t in
       cond_both (is_quiet tasks level t) walk (risen tasks level walk t) (λ w. backlog_now w (suc t) ≡ backlog_now walk t + times_at t - 1)

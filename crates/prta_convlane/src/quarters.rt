@@ -1,12 +1,12 @@
 //! Eight cells at a time by quarters of 15 bits, for every total up to 2^48.
 
-ghost use Rattle.std.specs.Prelude.{◌≡◌, ℕ, ◌+◌, ◌*◌, ◌/◌, ◌%◌, ◌^◌, ◌<◌, ◌≤◌, length, slice_index, not, nat_eq};
+ghost use Rattle.std.specs.Prelude.{◌≡◌, ℕ, ◌+◌, ◌*◌, ◌/◌, ◌^◌, ◌<◌, ◌≤◌, length, slice_index};
 ghost use Rattle.prta_mass.specs.Table.{total};
 ghost use Rattle.prta_mass.specs.Chances.{at, before, IsChances};
-ghost use Rattle.prta_mass.specs.Direction.{divided};
-ghost use Rattle.prta_convlane.specs.Limbs.{top_quarter, high_quarter, middle_quarter, low_quarter, limb_sum, joined};
+ghost use Rattle.prta_convlane.specs.Limbs.{top_quarter, high_quarter, middle_quarter, low_quarter, limb_sum};
 ghost use Rattle.prta_convlane.specs.Progress.{IsDone};
 
+use crate::cells::rounded_quotient;
 use crate::lanes::{down_15, down_30, down_45, eight_before, low_15, plus_limb};
 use prta_mass::{Dir, Divisor};
 use std::simd::prelude::*;
@@ -59,61 +59,6 @@ fn quarter_sums(from: &[u64], points: &[(u32, u64)], k: usize) -> Sums
     sums
 }
 
-// One quarter's sum more is divided: its quotient, and the remainder that goes to the next.
-#[inline(always)]
-fn bring_down(rest: u64, sum: u64, by: u64) -> (u64, u64)
-    requires below { rest < by }
-    requires limited { by ≤ 281474976710656 }
-    requires sum { sum ≤ by * 2 ^ 15 }
-    ensures whole { result.0 * by + result.1 ≡ rest * 2 ^ 15 + sum }
-    ensures below { result.1 < by }
-    ensures small { result.0 < 2 ^ 16 }
-{
-    let dividend = rest * 0x8000 + sum;
-    (dividend / by, dividend % by)
-}
-
-// The quotient of the joined sums, and the remainder.
-#[inline(always)]
-fn divide(top: u64, high: u64, middle: u64, low: u64, by: u64) -> (u64, u64)
-    requires some { 0 < by }
-    requires limited { by ≤ 281474976710656 }
-    requires top { top ≤ by * 2 ^ 15 }
-    requires high { high ≤ by * 2 ^ 15 }
-    requires middle { middle ≤ by * 2 ^ 15 }
-    requires low { low ≤ by * 2 ^ 15 }
-    ensures quotient { result.0 ≡ joined top high middle low / by }
-    ensures rest { result.1 ≡ joined top high middle low % by }
-    ensures small { result.0 < 2 ^ 62 }
-{
-    let (q3, r3) = bring_down(0, top, by);
-    let (q2, r2) = bring_down(r3, high, by);
-    let (q1, r1) = bring_down(r2, middle, by);
-    let (q0, r0) = bring_down(r1, low, by);
-    let quotient = q3 * 0x2000_0000_0000 + q2 * 0x4000_0000 + q1 * 0x8000 + q0;
-    (quotient, r0)
-}
-
-// The quotient of the joined sums, rounded in the direction, and whether a remainder was left.
-#[inline(always)]
-fn rounded_quotient(top: u64, high: u64, middle: u64, low: u64, by: u64, dir: Dir) -> (u64, bool)
-    requires some { 0 < by }
-    requires limited { by ≤ 281474976710656 }
-    requires top { top ≤ by * 2 ^ 15 }
-    requires high { high ≤ by * 2 ^ 15 }
-    requires middle { middle ≤ by * 2 ^ 15 }
-    requires low { low ≤ by * 2 ^ 15 }
-    ensures cell { result.0 ≡ divided dir (joined top high middle low) by }
-    ensures rest { result.1 ≡ not (nat_eq (joined top high middle low % by) 0) }
-{
-    let (quotient, rest) = divide(top, high, middle, low, by);
-    let cell = match dir {
-        Dir::Up => quotient,
-        Dir::Down => { if rest == 0 { quotient } else { quotient + 1 } }
-    };
-    (cell, rest != 0)
-}
-
 // The eight cells from k on. `before` and the result tell whether a cell so far left a remainder.
 #[inline(always)]
 fn add_eight(
@@ -141,7 +86,11 @@ fn add_eight(
     let low = low.to_array();
     let mut rounded = before;
     for j in 0..8 {
-        let (cell, rest) = rounded_quotient(top[j], high[j], middle[j], low[j], divisor.total, dir);
+        let sum = top[j] as u128 * 0x2000_0000_0000
+            + high[j] as u128 * 0x4000_0000
+            + middle[j] as u128 * 0x8000
+            + low[j] as u128;
+        let (cell, rest) = rounded_quotient(sum, divisor, dir);
         to[k + j] = cell;
         rounded = rounded | rest;
     }

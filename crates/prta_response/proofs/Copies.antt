@@ -73,7 +73,7 @@ module _ (tasks : List Task) (periodic : All (λ task. task.offset < task.period
   pub copy_release : (i k : ℕ) → i < length tasks → (copy_of tasks i k m).release ≡ ticks + (nth_job tasks i k).release
   copy_release i k low = omega (arith, whole i low)
 
-  table_later : (job : Job) → job.task < length tasks → table_of tasks (later job) ≡ table_of tasks job
+  pub table_later : (job : Job) → job.task < length tasks → table_of tasks (later job) ≡ table_of tasks job
   table_later job low = copies_have_their_table tasks cycles job.task _ low job.number m
 
   released_by_later : (i t : ℕ) → i < length tasks → released_by i (task_at tasks i) (t + ticks) ≡ map later (released_by i (task_at tasks i) t)
@@ -111,7 +111,7 @@ module _ (tasks : List Task) (periodic : All (λ task. task.offset < task.period
   released_later t = released_from 0 tasks t (zero-add (length tasks)) (λ k low. ap (task_at tasks) (zero-add k))
 
   -- of some tasks
-  kept_later : (p : ℕ → Bool) (jobs : List Job) → filter (λ job. p job.task) (map later jobs) ≡ map later (filter (λ job. p job.task) jobs)
+  pub kept_later : (p : ℕ → Bool) (jobs : List Job) → filter (λ job. p job.task) (map later jobs) ≡ map later (filter (λ job. p job.task) jobs)
   kept_later p jobs = sym (filter_map (λ job. p job.task) later later (λ job. refl) (λ job. refl) jobs)
 
   pub level_later : (level : Level) (t : ℕ) → level_at tasks level (t + ticks) ≡ map later (level_at tasks level t)
@@ -176,7 +176,7 @@ module _ (tasks : List Task) (periodic : All (λ task. task.offset < task.period
 
   -- ---- response runs
 
-  jobs_later : (s n : ℕ) → jobs_from tasks (s + ticks) n ≡ map later (jobs_from tasks s n)
+  pub jobs_later : (s n : ℕ) → jobs_from tasks (s + ticks) n ≡ map later (jobs_from tasks s n)
   jobs_later s zero = refl
   jobs_later s (suc n) =
       let at_t : s + ticks + n ≡ s + n + ticks = omega arith in

@@ -38,7 +38,7 @@ module _ (table : Job → Table) where
   same_value dir x y jobs f e h = subst (λ z. BoundsMean dir table z jobs f) (sym e) h
 
   -- finitely many cells, with the rule on the last one, bound at every place
-  settled_bounds : (dir : Dir) (jobs : List Job) (F : ℕ → ℕ) (n : ℕ) (b : List Timed → ℕ) → 0 < n → Bounds dir table F jobs b → Bounds dir table (at (settled dir (cells_of n F))) jobs b
+  pub settled_bounds : (dir : Dir) (jobs : List Job) (F : ℕ → ℕ) (n : ℕ) (b : List Timed → ℕ) → 0 < n → Bounds dir table F jobs b → Bounds dir table (at (settled dir (cells_of n F))) jobs b
   settled_bounds Up jobs F n b some h k = ⊎_elim
       (λ (l : k < n). same_value Up _ _ jobs _ (at-cells_of n F k l) (h k))
       (λ (l : n ≤ k).

@@ -19,10 +19,10 @@ use Rattle.prta_response.proofs.Copies.{later_run, copy_release, run_later, numb
 use Rattle.prta_response.proofs.Numbers.{number_bounds}
 
 module _ (tasks : List Task) (level : Level) (is : IsLevelOf tasks level) where
-  short : All (λ task. task.offset < task.period) tasks
+  pub short : All (λ task. task.offset < task.period) tasks
   short i d low = let task : IsPeriodic (get_or tasks i d) = is.periodic i d low in task.offset
 
-  cycles : All (λ task. 1 ≤ cycle_ticks task) tasks
+  pub cycles : All (λ task. 1 ≤ cycle_ticks task) tasks
   cycles i d low =
       let task : Task = get_or tasks i d in
       let offset : task.offset < task.period = short i d low in

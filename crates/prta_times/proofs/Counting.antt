@@ -4,10 +4,11 @@ use Rattle.std.proofs.lemmas.Bool.{lt-ltb, le-ltb}
 use Rattle.std.proofs.lemmas.List.{take_all, get_or_default}
 use Rattle.std.proofs.lemmas.List.Sums.{fold_more}
 use Rattle.prta_mass.specs.Table.{Table}
-use Rattle.prta_mass.specs.declared.table.TheConstants.{POINT_LIMIT}
 use Rattle.prta_sheet.specs.Sheet.{Task, task_at}
 use Rattle.prta_sheet.proofs.Ranges.{no_position, All_from_places}
 use Rattle.prta_times.specs.declared.fault.CountsFault.TheVariants.{TooManyPoints}
+use Rattle.prta_times.specs.declared.points.Points.{Points}
+use Rattle.prta_times.specs.Points.{most_times}
 use Rattle.prta_times.specs.Counts.{Count, with_weight, is_of, counted, too_many_points}
 use Rattle.prta_times.specs.Parts.{with_count, within_limit}
 use Rattle.prta_times.proofs.First.{first_at}
@@ -39,39 +40,39 @@ module _ (name : List ℕ) where
     pub counted_next : with_count name (counted name (take i counts)) count ≡ counted name (take (i + 1) counts)
     counted_next = ap (with_count name (counted name (take i counts))) is ∙ sym (fold_more (with_count name) [] counts i count low)
 
-    pub too_long : POINT_LIMIT < length (counted name (take (i + 1) counts)) → None ≡ within_limit (counted name counts)
-    too_long many =
-        let above : nat_lt POINT_LIMIT (length (counted name counts)) ≡ true = lt-ltb _ _ (omega (arith, many, first_counts [] counts (i + 1))) in
+    pub too_long : (most : ℕ) → most < length (counted name (take (i + 1) counts)) → None ≡ within_limit most (counted name counts)
+    too_long most many =
+        let above : nat_lt most (length (counted name counts)) ≡ true = lt-ltb _ _ (omega (arith, many, first_counts [] counts (i + 1))) in
         rw above refl
 
-  pub not_long : (counts : List Count) (n : ℕ) → length counts ≤ n → length (counted name (take n counts)) ≤ POINT_LIMIT → Some (counted name (take n counts)) ≡ within_limit (counted name counts)
-  not_long counts n all few =
+  pub not_long : (most : ℕ) (counts : List Count) (n : ℕ) → length counts ≤ n → length (counted name (take n counts)) ≤ most → Some (counted name (take n counts)) ≡ within_limit most (counted name counts)
+  not_long most counts n all few =
       let whole : take n counts ≡ counts = take_all n counts all in
-      let below : nat_lt POINT_LIMIT (length (counted name counts)) ≡ false = le-ltb _ _ (omega (arith, few, ap (λ cs. length (counted name cs)) whole)) in
+      let below : nat_lt most (length (counted name counts)) ≡ false = le-ltb _ _ (omega (arith, few, ap (λ cs. length (counted name cs)) whole)) in
       rw (whole, below) refl
 
 -- ---- over the tasks
 
-is_long : (table : Table) → None ≡ within_limit table → nat_lt POINT_LIMIT (length table) ≡ true
-is_long table e = by (nat_lt POINT_LIMIT (length table)) e
+is_long : (most : ℕ) (table : Table) → None ≡ within_limit most table → nat_lt most (length table) ≡ true
+is_long most table e = by (nat_lt most (length table)) e
   where
     by : (b : Bool) → None ≡ (if b then None else Some table) → b ≡ true
     by true e = refl
     by false e = cc
 
-module _ (tasks : List Task) (counts : List Count) where
+module _ (points : Points) (tasks : List Task) (counts : List Count) where
   abbrev table_at : ℕ → Table
   table_at k = counted (task_at tasks k).name counts
 
   abbrev has_many : Task → Bool
-  has_many task = nat_lt POINT_LIMIT (length (counted task.name counts))
+  has_many task = nat_lt (most_times points) (length (counted task.name counts))
 
-  pub too_many_here : (i : ℕ) (task : Task) (name : List ℕ) → i < length tasks → task ≡ get_or tasks i task → name ≡ task.name → None ≡ within_limit (counted name counts) →
-      ((k : ℕ) → k < i → length (table_at k) ≤ POINT_LIMIT) → option_map TooManyPoints (too_many_points tasks counts) ≡ Some (TooManyPoints i)
+  pub too_many_here : (i : ℕ) (task : Task) (name : List ℕ) → i < length tasks → task ≡ get_or tasks i task → name ≡ task.name → None ≡ within_limit (most_times points) (counted name counts) →
+      ((k : ℕ) → k < i → length (table_at k) ≤ most_times points) → option_map TooManyPoints (too_many_points points tasks counts) ≡ Some (TooManyPoints i)
   too_many_here i task name low is same long few =
-      let here : has_many task ≡ true = ap (λ n. nat_lt POINT_LIMIT (length (counted n counts))) (sym same) ∙ is_long (counted name counts) long in
+      let here : has_many task ≡ true = ap (λ n. nat_lt (most_times points) (length (counted n counts))) (sym same) ∙ is_long (most_times points) (counted name counts) long in
       let there : task_at tasks i ≡ task = get_or_default tasks i _ task low ∙ sym is in
       ap (option_map TooManyPoints) (first_at has_many tasks i _ low (λ k l. le-ltb _ _ (few k l)) (ap has_many there ∙ here))
 
-  pub none_too_many : ((k : ℕ) → k < length tasks → length (table_at k) ≤ POINT_LIMIT) → too_many_points tasks counts ≡ None
+  pub none_too_many : ((k : ℕ) → k < length tasks → length (table_at k) ≤ most_times points) → too_many_points points tasks counts ≡ None
   none_too_many few = no_position has_many tasks (All_from_places (λ (task : Task). has_many task ≡ false) tasks _ (λ k low. le-ltb _ _ (few k low)))

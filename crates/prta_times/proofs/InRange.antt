@@ -3,8 +3,9 @@ use Rattle.std.proofs.Common.{◌≡◌, ℕ, ◌<◌, ◌≤◌, Bool, true, fa
 use Rattle.std.specs.List.{list_any, AllByRecursion as Each}
 use Rattle.std.proofs.lemmas.Bool.{cases_order}
 use Rattle.std.proofs.lemmas.List.Elements.{All-from_recursion, recursion_from_All}
-use Rattle.prta_mass.specs.Table.{Table, IsTable, total}
-use Rattle.prta_mass.specs.declared.table.TheConstants.{POINT_LIMIT, TOTAL_LIMIT}
+use Rattle.prta_mass.specs.Table.{Table, times, total}
+use Rattle.std.specs.List.Sorted.{IsStrictlyIncreasing}
+use Rattle.prta_mass.specs.declared.table.TheConstants.{TOTAL_LIMIT}
 use Rattle.prta_mass.proofs.Totals.{total_positive}
 use Rattle.prta_number.specs.Decimal.{number_within}
 use Rattle.prta_number.proofs.Numbers.{read_number}
@@ -12,7 +13,10 @@ use Rattle.prta_sheet.specs.declared.limits.TheConstants.{TIME_LIMIT}
 use Rattle.prta_sheet.specs.Document.{◌>>=◌}
 use Rattle.prta_sheet.proofs.Each.{Each-append}
 use Rattle.prta_times.specs.Counts.{Count, count_in, counts_of, with_weight, is_of, counted}
-use Rattle.prta_times.specs.Parts.{IsInRange, counts_among, with_count}
+use Rattle.prta_times.specs.declared.points.Points.{Points}
+use Rattle.prta_times.specs.declared.points.Points.TheVariants.{Every, AtMost}
+use Rattle.prta_times.specs.Points.{most_times}
+use Rattle.prta_times.specs.Parts.{CanAsk, CanMake, IsInRange, counts_among, with_count}
 use Rattle.prta_times.proofs.WithWeight.{before_first, at_first, after_first, no_shorter}
 use Rattle.prta_times.proofs.CountedSums.{counted_are_sums}
 
@@ -85,16 +89,23 @@ module _ (name : List ℕ) where
     pub good_points : All IsGoodPoint (counted name counts)
     good_points = All-from_recursion IsGoodPoint (counted name counts) (good_after [] counts (recursion_from_All IsInRange counts are) tt)
 
-    pub makes_table : list_any (is_of name) counts ≡ true → length (counted name counts) ≤ POINT_LIMIT → total (counted name counts) ≤ TOTAL_LIMIT → IsTable (counted name counts)
-    makes_table any few limited =
+    pub positive : All (λ pair. 0 < pair.0) (counted name counts)
+    positive k d low = (good_points k d low).some_time
+
+    rising : IsStrictlyIncreasing (times (counted name counts))
+    rising = (counted_are_sums name counts).rising
+
+    weigh : All (λ pair. 0 < pair.1) (counted name counts)
+    weigh k d low = (good_points k d low).some_weight
+
+    pub makes_points : (points : Points) → CanAsk points → list_any (is_of name) counts ≡ true → length (counted name counts) ≤ most_times points → total (counted name counts) ≤ TOTAL_LIMIT →
+        CanMake points (counted name counts)
+    makes_points Every asked any few limited =
         let some : 0 < length (counted name counts) = some_after [] counts (inl any) in
-        let weigh : All (λ pair. 0 < pair.1) (counted name counts) = λ k d low. (good_points k d low).some_weight in
-        record {
-          some = some;
-          few = few;
-          positive_times = λ k d low. (good_points k d low).some_time;
-          increasing = (counted_are_sums name counts).rising;
-          positive_weights = weigh;
-          weighs = total_positive (counted name counts) some weigh;
-          limited = limited;
-        }
+        record { some = some; few = few; positive_times = positive; increasing = rising; positive_weights = weigh; weighs = total_positive (counted name counts) some weigh; limited = limited }
+    makes_points (AtMost k) asked any few limited = record {
+      wide = record { some = some_after [] counts (inl any); few = few; positive_times = positive; increasing = rising; positive_weights = weigh; limited = limited };
+      some = asked.0;
+      few = asked.1;
+      short = λ k d low. (good_points k d low).short;
+    }

@@ -7,6 +7,11 @@ pub mod Counting
 pub mod First
 pub mod InRange
 pub mod Kept
+pub mod Making
 pub mod OnlyWork
 pub mod CountedAccepted
 pub mod Tested
+pub mod LaterTasks
+pub mod LaterFinishes
+pub mod LaterMisses
+pub mod ReducedSafe

@@ -4,7 +4,7 @@ use Rattle.std.specs.List.{list_any}
 use Rattle.csv.specs.Reading.{default_config, records, strip_bom}
 use Rattle.prta_number.specs.Decimal.{number_within}
 use Rattle.prta_mass.specs.Table.{Table, or_else, when, total}
-use Rattle.prta_mass.specs.declared.table.TheConstants.{POINT_LIMIT, TOTAL_LIMIT}
+use Rattle.prta_mass.specs.declared.table.TheConstants.{TOTAL_LIMIT}
 use Rattle.prta_sheet.specs.declared.limits.TheConstants.{TIME_LIMIT, WORK_LIMIT}
 use Rattle.prta_sheet.specs.Document.{◌>>=◌}
 use Rattle.prta_sheet.specs.Sheet.{Task, Sheet}
@@ -12,6 +12,9 @@ use Rattle.prta_sheet.specs.Work.{work}
 use Rattle.prta_times.specs.declared.fault.CountsFault.{CountsFault}
 use Rattle.prta_times.specs.declared.fault.CountsFault.TheVariants.{TooLong, BadHeader, BadRow, UnknownTask, TooManyPoints, TotalTooLarge, TooMuchWork, NoMemory}
 use Rattle.prta_times.specs.declared.limits.TheConstants.{COUNTS_LIMIT}
+use Rattle.prta_times.specs.declared.points.Points.{Points}
+use Rattle.prta_times.specs.declared.points.Points.TheVariants.{Every, AtMost}
+use Rattle.prta_times.specs.Points.{most_times, table_by}
 
 -- ---- the records
 
@@ -75,16 +78,23 @@ is_of name count = bytes_eq count.task name
 abbrev pub counted : List ℕ → List Count → Table
 counted name counts = fold (λ table count. if is_of name count then with_weight count.time count.weight table else table) [] counts
 
--- a task that has a count gets a cycle of the one counted table; the others keep theirs
-abbrev pub with_counted : List Count → Task → Task
-with_counted counts task = if list_any (is_of task.name) counts then record task { cycle = counted task.name counts ∷ [] } else task
+-- a task that has a count gets a cycle of the one table of its counted times; the others keep theirs
+abbrev pub with_counted : Points → List Count → Task → Task
+with_counted points counts task = if list_any (is_of task.name) counts then record task { cycle = table_by points (counted task.name counts) ∷ [] } else task
 
-abbrev pub counted_sheet : Sheet → List Count → Sheet
-counted_sheet sheet counts = record sheet { tasks = map (with_counted counts) sheet.tasks }
+abbrev pub counted_sheet : Points → Sheet → List Count → Sheet
+counted_sheet points sheet counts = record sheet { tasks = map (with_counted points counts) sheet.tasks }
 
 -- the sheet that the file makes
+abbrev pub sheet_by : Points → Sheet → List ℕ → Sheet
+sheet_by points sheet bytes = counted_sheet points sheet (counts_in bytes)
+
+-- with each counted time, and with the counted times reduced to at most k
 abbrev pub sheet_with : Sheet → List ℕ → Sheet
-sheet_with sheet bytes = counted_sheet sheet (counts_in bytes)
+sheet_with sheet bytes = sheet_by Every sheet bytes
+
+abbrev pub reduced_sheet : ℕ → Sheet → List ℕ → Sheet
+reduced_sheet k sheet bytes = sheet_by (AtMost k) sheet bytes
 
 -- ---- the first condition that fails, each over the whole file before the next
 
@@ -101,8 +111,8 @@ abbrev pub unknown_task : List Task → List Count → Option ℕ
 unknown_task tasks counts = option_map (λ k. k + 1) (position (λ count. not (has_task tasks count.task)) counts)
 
 -- the first task with too many different times
-abbrev pub too_many_points : List Task → List Count → Option ℕ
-too_many_points tasks counts = position (λ task. nat_lt POINT_LIMIT (length (counted task.name counts))) tasks
+abbrev pub too_many_points : Points → List Task → List Count → Option ℕ
+too_many_points points tasks counts = position (λ task. nat_lt (most_times points) (length (counted task.name counts))) tasks
 
 -- the first task whose weights sum to too much
 abbrev pub total_too_large : List Task → List Count → Option ℕ
@@ -111,22 +121,28 @@ total_too_large tasks counts = position (λ task. nat_lt TOTAL_LIMIT (total (cou
 abbrev pub too_much_work : Sheet → Option CountsFault
 too_much_work sheet = when (nat_lt WORK_LIMIT (work sheet)) (TooMuchWork (work sheet))
 
-abbrev pub tables_fault : Sheet → List Count → Option CountsFault
-tables_fault sheet counts =
+abbrev pub tables_fault : Points → Sheet → List Count → Option CountsFault
+tables_fault points sheet counts =
     or_else (option_map (λ n. UnknownTask n) (unknown_task sheet.tasks counts))
-    (or_else (option_map (λ i. TooManyPoints i) (too_many_points sheet.tasks counts))
+    (or_else (option_map (λ i. TooManyPoints i) (too_many_points points sheet.tasks counts))
     (or_else (option_map (λ i. TotalTooLarge i) (total_too_large sheet.tasks counts))
-    (too_much_work (counted_sheet sheet counts))))
+    (too_much_work (counted_sheet points sheet counts))))
 
 abbrev pub rows_fault : List (List (List ℕ)) → Option CountsFault
 rows_fault rows = or_else (when (not (has_header rows)) BadHeader) (option_map (λ n. BadRow n) (bad_row (later_records rows)))
 
 -- none where the file makes a sheet
-abbrev pub counts_fault : Sheet → List ℕ → Option CountsFault
-counts_fault sheet bytes =
+abbrev pub fault_by : Points → Sheet → List ℕ → Option CountsFault
+fault_by points sheet bytes =
     or_else (when (nat_lt COUNTS_LIMIT (length bytes)) TooLong)
     (or_else (rows_fault (records_in bytes))
-    (tables_fault sheet (counts_in bytes)))
+    (tables_fault points sheet (counts_in bytes)))
+
+abbrev pub counts_fault : Sheet → List ℕ → Option CountsFault
+counts_fault sheet bytes = fault_by Every sheet bytes
+
+abbrev pub reduced_fault : ℕ → Sheet → List ℕ → Option CountsFault
+reduced_fault k sheet bytes = fault_by (AtMost k) sheet bytes
 
 -- the number of a condition; 0 for want of memory
 abbrev pub number_of : CountsFault → ℕ

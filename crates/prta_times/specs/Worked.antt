@@ -2,7 +2,8 @@
 use Rattle.std.specs.Prelude.{◌≡◌, ℕ, Some, None, List, [], ◌∷◌, codes}
 use Rattle.prta_mass.specs.Table.{Table}
 use Rattle.prta_sheet.specs.Sheet.{Task, Sheet}
-use Rattle.prta_times.specs.Counts.{Count, counted, with_counted, rows_fault, tables_fault, counts_fault, sheet_with}
+use Rattle.prta_times.specs.Counts.{Count, counted, with_counted, rows_fault, tables_fault, counts_fault, reduced_fault, sheet_with, reduced_sheet}
+use Rattle.prta_times.specs.declared.points.Points.TheVariants.{Every}
 use Rattle.prta_times.specs.declared.fault.CountsFault.TheVariants.{BadHeader, BadRow, UnknownTask}
 
 abbrev pub count : List ℕ → ℕ → ℕ → Count
@@ -33,15 +34,18 @@ pub record WorkedCounts : Type 0 where
   pub rising : counted (codes "A") (count (codes "A") 7 1 ∷ count (codes "A") 3 2 ∷ []) ≡ (3, 2) ∷ (7, 1) ∷ []
   pub others_aside : counted (codes "A") (count (codes "B") 4 9 ∷ three_counts) ≡ (3, 3) ∷ (7, 1) ∷ []
   -- a task without counts keeps its cycle
-  pub kept : with_counted three_counts (task (codes "B") ((2, 5) ∷ [])) ≡ task (codes "B") ((2, 5) ∷ [])
-  pub replaced : with_counted three_counts (task (codes "A") ((2, 5) ∷ [])) ≡ task (codes "A") ((3, 3) ∷ (7, 1) ∷ [])
+  pub kept : with_counted Every three_counts (task (codes "B") ((2, 5) ∷ [])) ≡ task (codes "B") ((2, 5) ∷ [])
+  pub replaced : with_counted Every three_counts (task (codes "A") ((2, 5) ∷ [])) ≡ task (codes "A") ((3, 3) ∷ (7, 1) ∷ [])
   pub good_rows : rows_fault (header ∷ row (codes "A") (codes "3") (codes "2") ∷ []) ≡ None
   pub no_rows : rows_fault [] ≡ Some BadHeader
   pub short_header : rows_fault ((codes "task" ∷ codes "time" ∷ []) ∷ []) ≡ Some BadHeader
   pub zero_time : rows_fault (header ∷ row (codes "A") (codes "0") (codes "1") ∷ []) ≡ Some (BadRow 1)
   pub zero_weight : rows_fault (header ∷ row (codes "A") (codes "3") (codes "1") ∷ row (codes "A") (codes "3") (codes "0") ∷ []) ≡ Some (BadRow 2)
-  pub good_tables : tables_fault one_task three_counts ≡ None
-  pub unknown : tables_fault one_task (count (codes "A") 3 1 ∷ count (codes "C") 3 1 ∷ []) ≡ Some (UnknownTask 2)
+  pub good_tables : tables_fault Every one_task three_counts ≡ None
+  pub unknown : tables_fault Every one_task (count (codes "A") 3 1 ∷ count (codes "C") 3 1 ∷ []) ≡ Some (UnknownTask 2)
   -- a whole file
   pub faultless : counts_fault one_task (codes "task,time,weight\nA,3,2\nA,7,1\nA,3,1\n") ≡ None
   pub made : sheet_with one_task (codes "task,time,weight\nA,3,2\nA,7,1\nA,3,1\n") ≡ sheet (task (codes "A") ((3, 3) ∷ (7, 1) ∷ []) ∷ [])
+  -- the same file with its times reduced to one
+  pub reduced_faultless : reduced_fault 1 one_task (codes "task,time,weight\nA,3,2\nA,7,1\nA,3,1\n") ≡ None
+  pub reduced_made : reduced_sheet 1 one_task (codes "task,time,weight\nA,3,2\nA,7,1\nA,3,1\n") ≡ sheet (task (codes "A") ((7, 4) ∷ []) ∷ [])

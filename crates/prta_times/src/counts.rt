@@ -1,16 +1,18 @@
 //! The sheet that a file of counts makes.
 
-ghost use Rattle.std.specs.Prelude.{◌≡◌, ◌≢◌, Some, None, All, map, IsOk, IfOk, IfErr};
-ghost use Rattle.prta_times.specs.Counts.{counted, counted_sheet, sheet_with, tables_fault, counts_fault};
-ghost use Rattle.prta_times.specs.Parts.{IsInRange, AreTested};
+ghost use Rattle.std.specs.Prelude.{◌≡◌, ◌≢◌, ◌≤◌, Some, None, All, map, IsOk, IfOk, IfErr};
+ghost use Rattle.prta_times.specs.Counts.{counted, counted_sheet, sheet_by, sheet_with, reduced_sheet, tables_fault, fault_by, counts_fault, reduced_fault};
+ghost use Rattle.prta_times.specs.Parts.{CanAsk, IsInRange, AreTested};
 
 use crate::count::Count;
 use crate::fault::CountsFault;
 use crate::limits::COUNTS_LIMIT;
+use crate::points::Points;
 use crate::rows::counts_in;
 use crate::tallies::{first_heavy, tallies_of};
 use crate::tally::Tally;
 use crate::tasks::{tasks_with, unknown_task};
+use prta_fewpoints::{reduction_is_one, reduction_is_table};
 use prta_mass::faultless_pairs;
 use prta_sheet::{Sheet, SheetFault, make_sheet};
 use std::alloc::Global;
@@ -25,28 +27,67 @@ pub fn read_counts(alloc: Global, sheet: &Sheet, bytes: &[u8]) -> Result<Sheet, 
     ensures accepted { IsOk result → counts_fault sheet.now bytes.now ≡ None }
     ensures refused { IfErr result (λ fault. fault ≢ CountsFault.NoMemory → counts_fault sheet.now bytes.now ≡ Some fault) }
 {
+    sheet_by(alloc, sheet, bytes, Points::Every)
+}
+
+/// The same with the counted times of each task reduced to a table of at most k points, at the least cost that a choice
+/// of times can have: `reduce` says which. The faults are those of `read_counts`, but that `TooManyPoints` comes above
+/// `WIDE_LIMIT` times, and `TooMuchWork` speaks of the sheet with the reduced tables.
+pub fn reduce_counts(
+    alloc: Global,
+    sheet: &Sheet,
+    bytes: &[u8],
+    k: usize,
+) -> Result<Sheet, CountsFault>
+    requires some { 1 ≤ k }
+    requires few { k ≤ 32 }
+    ensures read { IfOk result (λ made. made ≡ reduced_sheet k sheet.now bytes.now) }
+    ensures accepted { IsOk result → reduced_fault k sheet.now bytes.now ≡ None }
+    ensures refused { IfErr result (λ fault. fault ≢ CountsFault.NoMemory → reduced_fault k sheet.now bytes.now ≡ Some fault) }
+{
+    sheet_by(alloc, sheet, bytes, Points::AtMost(k))
+}
+
+// The sheet with the tables that the counted times of a file make.
+fn sheet_by(
+    alloc: Global,
+    sheet: &Sheet,
+    bytes: &[u8],
+    points: Points,
+) -> Result<Sheet, CountsFault>
+    requires { CanAsk points }
+    ensures read { IfOk result (λ made. made ≡ sheet_by points sheet.now bytes.now) }
+    ensures accepted { IsOk result → fault_by points sheet.now bytes.now ≡ None }
+    ensures refused { IfErr result (λ fault. fault ≢ CountsFault.NoMemory → fault_by points sheet.now bytes.now ≡ Some fault) }
+{
     if bytes.len() > COUNTS_LIMIT {
         return Err(CountsFault::TooLong);
     }
     let counts = counts_in(alloc, bytes)?;
-    sheet_with(alloc, sheet, &counts)
+    sheet_with(alloc, sheet, &counts, points)
 }
 
 // The sheet with the tables of counts.
-fn sheet_with(alloc: Global, sheet: &Sheet, counts: &[Count]) -> Result<Sheet, CountsFault>
+fn sheet_with(
+    alloc: Global,
+    sheet: &Sheet,
+    counts: &[Count],
+    points: Points,
+) -> Result<Sheet, CountsFault>
+    requires asked { CanAsk points }
     requires ranges { All IsInRange counts.now }
-    ensures made { IfOk result (λ made. made ≡ counted_sheet sheet.now counts.now) }
-    ensures accepted { IsOk result → tables_fault sheet.now counts.now ≡ None }
-    ensures refused { IfErr result (λ fault. fault ≢ CountsFault.NoMemory → tables_fault sheet.now counts.now ≡ Some fault) }
+    ensures made { IfOk result (λ made. made ≡ counted_sheet points sheet.now counts.now) }
+    ensures accepted { IsOk result → tables_fault points sheet.now counts.now ≡ None }
+    ensures refused { IfErr result (λ fault. fault ≢ CountsFault.NoMemory → tables_fault points sheet.now counts.now ≡ Some fault) }
 {
     if let Some(n) = unknown_task(sheet.tasks(), counts) {
         return Err(CountsFault::UnknownTask(n));
     }
-    let tallies = tallies_of(alloc, sheet.tasks(), counts)?;
+    let tallies = tallies_of(alloc, sheet.tasks(), counts, points)?;
     if let Some(i) = first_heavy(&tallies) {
         return Err(CountsFault::TotalTooLarge(i));
     }
-    tested_sheet(alloc, sheet, counts, &tallies)
+    tested_sheet(alloc, sheet, counts, &tallies, points)
 }
 
 // The same of counts that are tested but for the work. No other condition on a sheet can fail.
@@ -55,16 +96,20 @@ fn tested_sheet(
     sheet: &Sheet,
     counts: &[Count],
     tallies: &[Tally],
+    points: Points,
 ) -> Result<Sheet, CountsFault>
+    requires asked { CanAsk points }
     requires ranges { All IsInRange counts.now }
-    requires tested { AreTested sheet.now counts.now }
+    requires tested { AreTested points sheet.now counts.now }
     requires tallies { tallies.now ≡ map (λ task. counted task.name counts.now) sheet.now.tasks }
-    ensures made { IfOk result (λ made. made ≡ counted_sheet sheet.now counts.now) }
-    ensures accepted { IsOk result → tables_fault sheet.now counts.now ≡ None }
-    ensures refused { IfErr result (λ fault. fault ≢ CountsFault.NoMemory → tables_fault sheet.now counts.now ≡ Some fault) }
+    ensures made { IfOk result (λ made. made ≡ counted_sheet points sheet.now counts.now) }
+    ensures accepted { IsOk result → tables_fault points sheet.now counts.now ≡ None }
+    ensures refused { IfErr result (λ fault. fault ≢ CountsFault.NoMemory → tables_fault points sheet.now counts.now ≡ Some fault) }
 {
     faultless_pairs();
-    let tasks = tasks_with(alloc, sheet.tasks(), counts, tallies)?;
+    reduction_is_one();
+    reduction_is_table();
+    let tasks = tasks_with(alloc, sheet.tasks(), counts, tallies, points)?;
     match make_sheet(sheet.settings(), tasks) {
         Ok(made) => Ok(made),
         Err(fault) => match fault {

@@ -23,8 +23,9 @@ pub enum CountsFault {
     /// This record is the first whose task isn't on the sheet.
     #[error("the task of record {0} isn't on the sheet")]
     UnknownTask(usize),
-    /// This task is the first with more than `POINT_LIMIT` different times.
-    #[error("task {0} has more than 32 different times")]
+    /// This task is the first with too many different times: more than `POINT_LIMIT`, or where they are reduced
+    /// more than `WIDE_LIMIT`.
+    #[error("task {0} has too many different times")]
     TooManyPoints(usize),
     /// This task is the first whose weights sum to more than `TOTAL_LIMIT`.
     #[error("the weights of task {0} sum to more than 281474976710656")]

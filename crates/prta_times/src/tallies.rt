@@ -8,8 +8,9 @@ ghost use Rattle.prta_times.specs.Parts.{with_count, within_limit};
 
 use crate::count::Count;
 use crate::fault::CountsFault;
+use crate::points::Points;
 use crate::tally::Tally;
-use prta_mass::{NoMemory, POINT_LIMIT, TOTAL_LIMIT};
+use prta_mass::{NoMemory, TOTAL_LIMIT};
 use prta_sheet::Task;
 use std::alloc::Global;
 
@@ -18,14 +19,16 @@ pub(crate) fn tallies_of(
     alloc: Global,
     tasks: &[Task],
     counts: &[Count],
+    points: Points,
 ) -> Result<Vec<Tally>, CountsFault>
     ensures tallies { IfOk result (λ tallies. tallies.items ≡ map (λ task. counted task.name counts.now) tasks.now) }
-    ensures accepted { IsOk result → too_many_points tasks.now counts.now ≡ None }
-    ensures refused { IfErr result (λ fault. fault ≢ CountsFault.NoMemory → option_map CountsFault.TooManyPoints (too_many_points tasks.now counts.now) ≡ Some fault) }
+    ensures accepted { IsOk result → too_many_points points tasks.now counts.now ≡ None }
+    ensures refused { IfErr result (λ fault. fault ≢ CountsFault.NoMemory → option_map CountsFault.TooManyPoints (too_many_points points tasks.now counts.now) ≡ Some fault) }
 {
+    let most = points.most_times();
     let mut tallies = Vec::new(alloc);
     for i in 0..tasks.len() {
-        match tally_of(alloc, tasks[i].name().as_bytes(), counts)? {
+        match tally_of(alloc, tasks[i].name().as_bytes(), counts, most)? {
             Some(tally) => tallies.push(tally)?,
             None => return Err(CountsFault::TooManyPoints(i)),
         }
@@ -33,14 +36,20 @@ pub(crate) fn tallies_of(
     Ok(tallies)
 }
 
-// The counted times of the task of this name, or none where there are too many: more counts can't make them fewer.
-fn tally_of(alloc: Global, name: &[u8], counts: &[Count]) -> Result<Option<Tally>, NoMemory>
-    ensures { IfOk result (λ tally. tally ≡ within_limit (counted name.now counts.now)) }
+// The counted times of the task of this name, or none where there are more than so many: more counts can't make them
+// fewer.
+fn tally_of(
+    alloc: Global,
+    name: &[u8],
+    counts: &[Count],
+    most: usize,
+) -> Result<Option<Tally>, NoMemory>
+    ensures { IfOk result (λ tally. tally ≡ within_limit most (counted name.now counts.now)) }
 {
     let mut tally = Tally::new(alloc);
     for count in counts {
         add_count(&mut tally, name, count)?;
-        if tally.len() > POINT_LIMIT {
+        if tally.len() > most {
             return Ok(None);
         }
     }

@@ -1,10 +1,13 @@
 //! A task's counted times.
 
-ghost use Rattle.std.specs.Prelude.{◌≡◌, ◌+◌, ◌<◌, ◌^◌, [], ◌&&◌, nat_le, nat_lt, nat_eq, length, position, slice_index_or, IfOk, OnOk, OnErr};
+ghost use Rattle.std.specs.Prelude.{◌≡◌, ◌+◌, ◌<◌, ◌≤◌, ◌^◌, [], ◌&&◌, nat_le, nat_lt, nat_eq, length, position, slice_index_or, IfOk, OnOk, OnErr};
 ghost use Rattle.std.specs.List.{position_or_len};
 ghost use Rattle.prta_mass.specs.Table.{total, IsTable};
+ghost use Rattle.prta_mass.specs.declared.table.TheConstants.{TOTAL_LIMIT as total_limit};
+ghost use Rattle.prta_fewpoints.specs.Wide.{IsWide};
 ghost use Rattle.prta_times.specs.Counts.{with_weight};
 
+use prta_fewpoints::{WideTable, faultless_wide_pairs};
 use prta_mass::{NoMemory, TableFault, TimeTable, faultless_pairs};
 use std::alloc::Global;
 use std::marker::Model;
@@ -67,16 +70,39 @@ impl Tally {
         requires { IsTable self.now }
         ensures { IfOk result (λ table. table ≡ self.now) }
     {
-        let mut pairs = Vec::new(alloc);
-        for point in &self.points {
-            pairs.push((point.0, point.1 as u64))?;
-        }
         faultless_pairs();
+        let pairs = self.pairs(alloc)?;
         match TimeTable::new(alloc, &pairs) {
             Ok(table) => Ok(table),
             Err(TableFault::NoMemory) => Err(NoMemory),
             Err(_) => unreachable!(),
         }
+    }
+
+    // The wide table of these times.
+    pub(crate) fn wide(&self, alloc: Global) -> Result<WideTable, NoMemory>
+        requires { IsWide self.now }
+        ensures { IfOk result (λ wide. wide ≡ self.now) }
+    {
+        faultless_wide_pairs();
+        let pairs = self.pairs(alloc)?;
+        match WideTable::new(alloc, &pairs) {
+            Ok(wide) => Ok(wide),
+            Err(TableFault::NoMemory) => Err(NoMemory),
+            Err(_) => unreachable!(),
+        }
+    }
+
+    // These times with their weights.
+    fn pairs(&self, alloc: Global) -> Result<Vec<(u32, u64)>, NoMemory>
+        requires { total self.now ≤ total_limit }
+        ensures { IfOk result (λ pairs. pairs.items ≡ self.now) }
+    {
+        let mut pairs = Vec::new(alloc);
+        for point in &self.points {
+            pairs.push((point.0, point.1 as u64))?;
+        }
+        Ok(pairs)
     }
 }
 

@@ -101,3 +101,71 @@ fn faulty_files_are_refused(rt: HostRuntime) -> Result<(), Fail> {
     }
     Ok(())
 }
+
+// Files, a number of points, and the times that A gets from them.
+static REDUCED: [(&[u8], usize, &[(u32, u64)]); 5] = [
+    (
+        b"task,time,weight\nA,1,1\nA,2,1\nA,3,1\nA,4,1\n",
+        2,
+        &[(2, 2), (4, 2)],
+    ),
+    (
+        b"task,time,weight\nA,1,1\nA,2,1\nA,3,1\nA,4,1\n",
+        1,
+        &[(4, 4)],
+    ),
+    (
+        b"task,time,weight\nA,3,1\nA,1,1\nA,2,1\n",
+        2,
+        &[(1, 1), (3, 2)],
+    ),
+    (
+        b"task,time,weight\nA,3,2\nA,7,1\nA,3,1\n",
+        32,
+        &[(3, 3), (7, 1)],
+    ),
+    (b"task,time,weight\nB,4,5\n", 1, &[(1, 1), (2, 1)]),
+];
+
+#[test]
+fn counted_times_are_reduced(rt: HostRuntime) -> Result<(), Fail> {
+    let alloc = rt.alloc();
+    let before = sheet(alloc, &[(1, 1), (2, 1)], &[(4, 5)])?;
+    for (bytes, k, times) in REDUCED.iter() {
+        assert!(rt; 1 <= *k && *k <= 32);
+        let made = reduce_counts(alloc, &before, bytes, *k)?;
+        let want = sheet(alloc, times, &[(4, 5)])?;
+        let text = sheet_text(alloc, &made)?;
+        let wanted = sheet_text(alloc, &want)?;
+        assert!(rt; text.as_slice() == wanted.as_slice(), "{bytes:?} to {k}");
+    }
+    Ok(())
+}
+
+// A file with the times from 1 on for A.
+fn many_times(alloc: Global, count: u32) -> Result<String, Fail> {
+    let mut text = String::from_str(alloc, "task,time,weight\n")?;
+    for time in 1..=count {
+        let line = format!(in alloc; "A,{time},1\n")?;
+        text.push_str(&line)?;
+    }
+    Ok(text)
+}
+
+#[test]
+fn files_to_reduce_have_up_to_1024_times(rt: HostRuntime) -> Result<(), Fail> {
+    let alloc = rt.alloc();
+    let before = sheet(alloc, &[(1, 1)], &[(4, 5)])?;
+    let most = many_times(alloc, 1024)?;
+    assert!(rt; reduce_counts(alloc, &before, most.as_bytes(), 32).is_ok());
+    let many = many_times(alloc, 1025)?;
+    assert!(rt;
+        reduce_counts(alloc, &before, many.as_bytes(), 32).err()
+            == Some(CountsFault::TooManyPoints(0))
+    );
+    assert!(rt;
+        reduce_counts(alloc, &before, b"task,time,weight\nC,3,1\n", 2).err()
+            == Some(CountsFault::UnknownTask(1))
+    );
+    Ok(())
+}

@@ -14,21 +14,21 @@ parts settings own tasks now made f e g h = ap₂ (λ (s : Settings) (ts : List 
 
 pub tasks_with-requires-clause-tables : goal.tasks_with-requires-clause-tables
 tasks_with-requires-clause-tables c =
-    subst (All (HasTable c.args.counts.now)) (sym c.tasks.ensures.tasks)
-    (have_tables c.faultless_pairs.ensures c.args.sheet.now c.args.counts.now c.tasks.ensures.accepted c.requires.ranges c.requires.tested.few c.requires.tested.light)
+    subst (All (HasTable c.args.points c.args.counts.now)) (sym c.tasks.ensures.tasks)
+    (have_tables (record { makes = c.faultless_pairs.ensures; one = c.reduction_is_one.ensures; tables = c.reduction_is_table.ensures }) c.args.points c.args.sheet.now c.args.counts.now c.requires.asked c.tasks.ensures.accepted c.requires.ranges c.requires.tested.few c.requires.tested.light)
 
 pub returns-in-Ok-clause-accepted : goal.returns-in-Ok-clause-accepted
 returns-in-Ok-clause-accepted c = λ ok.
-    none_refused c.args.sheet.now c.args.counts.now c.faultless_pairs.ensures c.tasks.ensures.accepted c.requires.ranges c.requires.tested
-    (ap part_fault (parts _ _ _ _ _ (with_counted c.args.counts.now) c.settings.ensures.settings c.tasks.ensures.tasks c.in_ok-tasks.ensures) ∙ c.in-Ok.ensures.accepted refl)
+    none_refused c.args.points c.args.sheet.now c.args.counts.now (record { makes = c.faultless_pairs.ensures; one = c.reduction_is_one.ensures; tables = c.reduction_is_table.ensures }) c.requires.asked c.tasks.ensures.accepted c.requires.ranges c.requires.tested
+    (ap part_fault (parts _ _ _ _ _ (with_counted c.args.points c.args.counts.now) c.settings.ensures.settings c.tasks.ensures.tasks c.in_ok-tasks.ensures) ∙ c.in-Ok.ensures.accepted refl)
 
 pub returns-in-TooMuchWork-clause-refused : goal.returns-in-TooMuchWork-clause-refused
 returns-in-TooMuchWork-clause-refused c = λ other.
-    work_refused c.args.sheet.now c.args.counts.now c.faultless_pairs.ensures c.tasks.ensures.accepted c.requires.ranges c.requires.tested c.in-TooMuchWork.work
-    (ap part_fault (parts _ _ _ _ _ (with_counted c.args.counts.now) c.settings.ensures.settings c.tasks.ensures.tasks c.in_ok-tasks.ensures) ∙ c.in-Err.ensures.refused ∙ ap Some c.in-TooMuchWork.is)
+    work_refused c.args.points c.args.sheet.now c.args.counts.now (record { makes = c.faultless_pairs.ensures; one = c.reduction_is_one.ensures; tables = c.reduction_is_table.ensures }) c.requires.asked c.tasks.ensures.accepted c.requires.ranges c.requires.tested c.in-TooMuchWork.work
+    (ap part_fault (parts _ _ _ _ _ (with_counted c.args.points c.args.counts.now) c.settings.ensures.settings c.tasks.ensures.tasks c.in_ok-tasks.ensures) ∙ c.in-Err.ensures.refused ∙ ap Some c.in-TooMuchWork.is)
 
 pub unreachable-requires : goal.unreachable-requires
 unreachable-requires c =
-    no_other c.args.sheet.now c.args.counts.now c.faultless_pairs.ensures c.tasks.ensures.accepted c.requires.ranges c.requires.tested c.in-Err.fault
-    (ap part_fault (parts _ _ _ _ _ (with_counted c.args.counts.now) c.settings.ensures.settings c.tasks.ensures.tasks c.in_ok-tasks.ensures) ∙ c.in-Err.ensures.refused)
+    no_other c.args.points c.args.sheet.now c.args.counts.now (record { makes = c.faultless_pairs.ensures; one = c.reduction_is_one.ensures; tables = c.reduction_is_table.ensures }) c.requires.asked c.tasks.ensures.accepted c.requires.ranges c.requires.tested c.in-Err.fault
+    (ap part_fault (parts _ _ _ _ _ (with_counted c.args.points c.args.counts.now) c.settings.ensures.settings c.tasks.ensures.tasks c.in_ok-tasks.ensures) ∙ c.in-Err.ensures.refused)
     c.in_default.not-TooMuchWork

@@ -19,4 +19,6 @@ returns c = record {
   unknown = refl;
   faultless = refl;
   made = refl;
+  reduced_faultless = refl;
+  reduced_made = refl;
 }

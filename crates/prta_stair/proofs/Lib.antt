@@ -1,0 +1,13 @@
+pub mod Values
+pub mod Lists
+pub mod Putting
+pub mod Settings
+pub mod Lowered
+pub mod Moves
+pub mod Sampling
+pub mod Comparisons
+pub mod Making
+pub mod Marks
+pub mod Sweeps
+pub mod Additions
+pub mod Storing

@@ -1,0 +1,12 @@
+pub mod Products
+pub mod Proper
+pub mod Worth
+pub mod Windows
+pub mod Outside
+pub mod Tails
+pub mod Holding
+pub mod Growing
+pub mod WalkSteps
+pub mod Loads
+pub mod Lowering
+pub mod Turns

@@ -1,0 +1,23 @@
+-- the pass follows its level run, with all numbers so far lowered
+use Rattle.std.proofs.Common.{◌≡◌, ◌-◌, ◌≤◌, length, vec_len}
+use Rattle.prta_sheet.specs.Sheet.{hyperperiod}
+use Rattle.prta_sheet.specs.Job.{nth_job}
+use Rattle.prta_backlog.specs.Pass.{level_of, after_last}
+use Rattle.prta_response.specs.Fitting.{FitsCap}
+use Rattle.prta_certificate.specs.Certificate.{steady_number}
+use Rattle.prta_certificate.proofs.SteadyPass.{Awaiting}
+use Rattle.prta_tail.proofs.Lowering.{Lowered}
+use Rattle.prta_tail.proofs.steadiness.lower_to_steady.Given as goal
+
+abbrev pub invariant-loop-number : goal.invariant-loop-number
+invariant-loop-number g l = record {
+  awaiting : Awaiting l.sheet (g.C.Curve.cells l.fn.bench.main) l.higher l.task l.pass (g.C.Curve.cells l.bench.main) l.number;
+  within : l.number ≤ length l.found;
+  lowered : Lowered (λ k. steady_number l.sheet.tasks (level_of l.higher l.task) (g.C.Curve.cells l.fn.bench.main) (nth_job l.sheet.tasks l.task k)) l.fn.found l.found l.number;
+  spare : g.C.Curve.cells l.bench.spare ≡ g.C.Curve.cells l.fn.bench.spare;
+  fits : FitsCap l.sheet.settings.cap (g.C.Curve.cells l.bench.main) (g.C.Curve.cells l.bench.spare) (g.C.Curve.cells l.bench.kept)
+      (vec_len l.bench.cells) (vec_len l.bench.tail) (vec_len l.bench.room);
+}
+
+abbrev pub decreases-loop-number : goal.decreases-loop-number
+decreases-loop-number g l = hyperperiod l.sheet.tasks - after_last l.pass.last
