@@ -7,6 +7,7 @@ pub mod Moves
 pub mod Sampling
 pub mod Comparisons
 pub mod Making
+pub mod Rises
 pub mod Marks
 pub mod Sweeps
 pub mod Additions

@@ -10,7 +10,6 @@ use Rattle.prta_dist.proofs.Cells.{at_cell, at_past, at_rises, length-cells_of, 
 use Rattle.prta_dist.proofs.Sums.{before_near, before_far}
 use Rattle.prta_stair.specs.Steps.{Steps, steps_of, value_at, cells_by_steps, place, height, AreRising, AreSteps}
 use Rattle.prta_stair.specs.Reading.{level}
-use Rattle.prta_stair.specs.Laws.{StepsAreLists}
 use Rattle.prta_stair.proofs.Values.{value_is, before_is, value_here, value_mono, value_limited, value_end}
 
 -- equal values make equal cells
@@ -40,11 +39,11 @@ chances cap steps are = chances_of cap (value_at steps) (λ i k le h. value_mono
 -- ---- the steps of a list
 
 -- a function rises at k
-abbrev rises : (ℕ → ℕ) → ℕ → Bool
+abbrev pub rises : (ℕ → ℕ) → ℕ → Bool
 rises F k = nat_lt (before F k 1) (F k)
 
 -- its steps at n places from a on
-abbrev steps_from : (ℕ → ℕ) → ℕ → ℕ → Steps
+abbrev pub steps_from : (ℕ → ℕ) → ℕ → ℕ → Steps
 steps_from F a n = map (λ k. (k, F k)) (filter (rises F) (range_with_len a n))
 
 from_rises : (F : ℕ → ℕ) (a n : ℕ) → rises F a ≡ true → steps_from F a (suc n) ≡ (a, F a) ∷ steps_from F (a + 1) n
@@ -123,10 +122,10 @@ none_yet F v a (suc n) k l = elim (cases_Bool (rises F a)) [
   | inr still ↦ ap (λ (ss : Steps). value_from v ss k) (from_still F a n still) ∙ none_yet F v (a + 1) n k (omega arith)
 ]
 
-next_before : (F : ℕ → ℕ) (a : ℕ) → F a ≡ before F (a + 1) 1
+pub next_before : (F : ℕ → ℕ) (a : ℕ) → F a ≡ before F (a + 1) 1
 next_before F a = ap F (let e : a ≡ a + 1 - 1 = omega arith in e) ∙ sym (before_near F (a + 1) 1 (omega arith))
 
-before_low : (F : ℕ → ℕ) (a : ℕ) → ((i k : ℕ) → i ≤ k → F i ≤ F k) → before F a 1 ≤ F a
+pub before_low : (F : ℕ → ℕ) (a : ℕ) → ((i k : ℕ) → i ≤ k → F i ≤ F k) → before F a 1 ≤ F a
 before_low F a up = ⊎_elim
     (λ (far : a < 1). omega (arith, before_far F a 1 far))
     (λ (near : 1 ≤ a). omega (arith, before_near F a 1 near, up (a - 1) a (omega arith)))
@@ -151,6 +150,3 @@ pub read : (cells : List ℕ) → IsChances cells → cells_by_steps (length cel
 read cells is =
     sym (fill_by_all (value_at (steps_of cells)) cells (length cells) 0 refl
     (λ k h. at_cell cells k 0 h ∙ sym (values_again (at cells) 0 0 (length cells) k (λ i j le. at_rises cells i j is.rising le) refl (omega arith) (omega arith))))
-
-pub steps_and_lists : StepsAreLists
-steps_and_lists = record { read = read; read_back = read_back; chances = chances }

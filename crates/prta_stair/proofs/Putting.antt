@@ -151,6 +151,10 @@ module _ (cap : ℕ) (to : Steps) (count at value : ℕ) (le : count ≤ length 
         (before i lt).1,
       )
 
+  -- so there is room behind them
+  pub behind : ((i : ℕ) → i < count → (place (take count to) i ≤ at) × (height (take count to) i < value)) → (0 < count → place to (count - 1) ≢ at) → count ≤ at
+  behind before other = room_left cap count at (take count to) are size_front (λ i l. (strictly before other i l).0)
+
 pub put_over : (cap : ℕ) (to : Steps) (n at value : ℕ) → n < length to → AreSteps cap (take (n + 1) to) → at < cap → value ≤ unit → place to n ≡ at → height to n < value → IsPut cap at value (take (n + 1) to) (take (n + 1) (slice_set to n (at, value)))
 put_over cap to n at value space are room low same more =
     let ys : Steps = take n to in

@@ -1,10 +1,10 @@
 //! Lists whose steps move: shifted and re-sampled ones.
 
 ghost use Rattle.std.specs.Prelude.{◌≡◌, ℕ, ◌<◌, ◌≤◌, length, take};
+ghost use Rattle.prta_mass.specs.declared.direction.Dir.TheVariants.{Up, Down};
 ghost use Rattle.prta_shift.specs.Shift.{shifted};
 ghost use Rattle.prta_resample.specs.Resample.{read_place, resampled, moved_amount};
 ghost use Rattle.prta_stair.specs.Steps.{value_at, cells_by_steps, place, AreSteps};
-ghost use Rattle.prta_mass.specs.declared.direction.Dir.TheVariants.{Up, Down};
 ghost use Rattle.prta_stair.specs.Moving.{place_read, HasStep, MovesTo, Makes};
 
 use crate::comparing::largest_excess;

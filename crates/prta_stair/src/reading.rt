@@ -20,6 +20,26 @@ pub(crate) fn reach(steps: &[(u32, u64)], c: usize, k: usize, start: usize) -> u
     i
 }
 
+// How many steps stand c places before k or earlier, sought by halves.
+pub(crate) fn seek(steps: &[(u32, u64)], c: usize, k: usize) -> usize
+    requires time { c < 2 ^ 32 }
+    requires rising { AreRising steps.now }
+    ensures reached { IsReached steps.now c k result }
+    ensures next { result < length steps.now → k < place steps.now result + c }
+{
+    let mut low = 0;
+    let mut high = steps.len();
+    while low < high {
+        let middle = low + (high - low) / 2;
+        if steps[middle].0 as usize + c <= k {
+            low = middle + 1;
+        } else {
+            high = middle;
+        }
+    }
+    low
+}
+
 // The value of the last of the first i steps, and 0 where there is none.
 #[inline(always)]
 pub(crate) fn last_of(steps: &[(u32, u64)], i: usize) -> u64
@@ -45,7 +65,7 @@ pub(crate) fn value_of(steps: &[(u32, u64)], k: usize) -> u64
     requires { AreRising steps.now }
     ensures { result ≡ value_at steps.now k }
 {
-    let i = reach(steps, 0, k, 0);
+    let i = seek(steps, 0, k);
     value(steps, 0, k, i)
 }
 

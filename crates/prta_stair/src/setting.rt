@@ -3,14 +3,14 @@
 ghost use Rattle.std.specs.Prelude.{◌≡◌, ℕ, ◌+◌, ◌-◌, ◌<◌, ◌≤◌, length, take};
 ghost use Rattle.prta_mass.specs.Unit.{unit};
 ghost use Rattle.prta_mass.specs.Chances.{before};
+ghost use Rattle.prta_mass.specs.declared.direction.Dir.TheVariants.{Down};
 ghost use Rattle.prta_dist.specs.Addition.{settled};
 ghost use Rattle.prta_dist.specs.Curve.{lower, raise};
-ghost use Rattle.prta_mass.specs.declared.direction.Dir.TheVariants.{Down};
 ghost use Rattle.prta_stair.specs.Steps.{value_at, cells_by_steps, place, height, AreSteps};
 ghost use Rattle.prta_stair.specs.Reading.{level};
 ghost use Rattle.prta_stair.specs.Setting.{IsPut};
 
-use crate::reading::{last_of, reach, value};
+use crate::reading::{last_of, seek, value};
 use prta_mass::UNIT;
 
 // Gives the list of the first `count` steps a value from a place on, at or behind which none of them stands.
@@ -75,7 +75,7 @@ pub(crate) fn raise_steps(
     ensures steps { AreSteps (length steps.old) (take result steps.new) }
     ensures cells { cells_by_steps (length steps.old) (take result steps.new) ≡ raise place height (cells_by_steps (length steps.old) (take count steps.old)) }
 {
-    let kept = reach(&steps[..count], 1, place, 0);
+    let kept = seek(&steps[..count], 1, place);
     if value(&steps[..count], 1, place, kept) == height {
         return kept;
     }
@@ -108,7 +108,7 @@ fn lower_below(steps: &[(u32, u64)], to: &mut [(u32, u64)], s: u64, top: usize) 
     ensures below { (i : ℕ) → i < result → place (take result to.new) i < top }
     ensures values { (k : ℕ) → k < top → value_at (take result to.new) k ≡ value_at steps.now k - s }
 {
-    let kept = reach(steps, 1, top, 0);
+    let kept = seek(steps, 1, top);
     let mut count = 0;
     for i in 0..kept {
         let height = steps[i].1.saturating_sub(s);

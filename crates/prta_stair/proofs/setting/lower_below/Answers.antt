@@ -15,7 +15,7 @@ loop-i-preserved c =
     let top = c.args.top in
     let i = c.loop-i.i in
     let cap = length c.loop-i.to in
-    let inside : i < length steps = omega (arith, c.loop-i-test.true, c.reach-kept.ensures.reached.within) in
+    let inside : i < length steps = omega (arith, c.loop-i-test.true, c.seek-kept.ensures.reached.within) in
     let lowered : c.saturating_sub-height.result ≡ height steps i - s = c.saturating_sub-height.ensures in
     elim c.if-height-gt0.branch [
       | then-height-gt0 w ↦
@@ -24,7 +24,7 @@ loop-i-preserved c =
           let size : length w.put-count.new.to ≡ cap = w.put-count.auto.to in
           let a : Lowered steps s top cap (i + 1) w.put-count.result w.put-count.new.to =
           lowered_step steps s top cap i c.loop-i.count c.loop-i.to c.requires.steps.rising inside c.loop-i.invariant w.put-count.result w.put-count.new.to
-          (omega (arith, c.reach-kept.ensures.reached.passed i c.loop-i-test.true)) (omega (arith, lowered, w.if-height-gt0.true)) size w.put-count.ensures.room put in
+          (omega (arith, c.seek-kept.ensures.reached.passed i c.loop-i-test.true)) (omega (arith, lowered, w.if-height-gt0.true)) size w.put-count.ensures.room put in
           rw (w.to-is, w.count-is) (subst (λ n. Lowered steps s top n (i + 1) w.put-count.result w.put-count.new.to) (sym size) a)
       | else-height-gt0 w ↦
           let a : Lowered steps s top cap (i + 1) c.loop-i.count c.loop-i.to =
@@ -33,4 +33,4 @@ loop-i-preserved c =
     ]
 
 pub returns-clause-values : goal.returns-clause-values
-returns-clause-values c = lowered_all c.args.steps.now c.args.s c.args.top (length c.loop-i.to) c.reach-kept.result c.loop-i.i c.loop-i.count c.loop-i.to c.requires.steps.rising c.reach-kept.ensures.reached.within c.reach-kept.ensures.next (omega arith) c.loop-i.invariant
+returns-clause-values c = lowered_all c.args.steps.now c.args.s c.args.top (length c.loop-i.to) c.seek-kept.result c.loop-i.i c.loop-i.count c.loop-i.to c.requires.steps.rising c.seek-kept.ensures.reached.within c.seek-kept.ensures.next (omega arith) c.loop-i.invariant

@@ -7,35 +7,35 @@ use Rattle.prta_stair.proofs.setting.raise_steps.Goals as goal
 
 pub returns-then-value-height-clause-steps : goal.returns-then-value-height-clause-steps
 returns-then-value-height-clause-steps c =
-    kept_steps (length c.args.steps.now) c.args.place c.args.height c.reach-kept.result c.args.count c.args.steps.now c.requires.place c.requires.count c.requires.steps c.reach-kept.ensures.reached c.reach-kept.ensures.next
+    kept_steps (length c.args.steps.now) c.args.place c.args.height c.seek-kept.result c.args.count c.args.steps.now c.requires.place c.requires.count c.requires.steps c.seek-kept.ensures.reached c.seek-kept.ensures.next
 
 pub returns-then-value-height-clause-cells : goal.returns-then-value-height-clause-cells
 returns-then-value-height-clause-cells c =
-    raised_same (length c.args.steps.now) c.args.place c.args.height c.reach-kept.result c.args.count c.args.steps.now c.requires.place c.requires.count c.requires.steps c.reach-kept.ensures.reached c.reach-kept.ensures.next (sym c.value.ensures ∙ c.if-value-height.true)
+    raised_same (length c.args.steps.now) c.args.place c.args.height c.seek-kept.result c.args.count c.args.steps.now c.requires.place c.requires.count c.requires.steps c.seek-kept.ensures.reached c.seek-kept.ensures.next (sym c.value.ensures ∙ c.if-value-height.true)
 
 pub bounds-steps-kept : goal.bounds-steps-kept
 bounds-steps-kept c =
-    omega (arith, kept_room (length c.args.steps.now) c.args.place c.args.height c.reach-kept.result c.args.count c.args.steps.now c.requires.place c.requires.count c.requires.steps c.reach-kept.ensures.reached c.reach-kept.ensures.next)
+    omega (arith, kept_room (length c.args.steps.now) c.args.place c.args.height c.seek-kept.result c.args.count c.args.steps.now c.requires.place c.requires.count c.requires.steps c.seek-kept.ensures.reached c.seek-kept.ensures.next)
 
 pub returns-clause-count : goal.returns-clause-count
 returns-clause-count c =
-    omega (arith, kept_room (length c.args.steps.now) c.args.place c.args.height c.reach-kept.result c.args.count c.args.steps.now c.requires.place c.requires.count c.requires.steps c.reach-kept.ensures.reached c.reach-kept.ensures.next)
+    omega (arith, kept_room (length c.args.steps.now) c.args.place c.args.height c.seek-kept.result c.args.count c.args.steps.now c.requires.place c.requires.count c.requires.steps c.seek-kept.ensures.reached c.seek-kept.ensures.next)
 
 pub returns-clause-steps : goal.returns-clause-steps
 returns-clause-steps c =
-    let kept = c.reach-kept.result in
-    let few : kept ≤ c.args.place = kept_room (length c.args.steps.now) c.args.place c.args.height kept c.args.count c.args.steps.now c.requires.place c.requires.count c.requires.steps c.reach-kept.ensures.reached c.reach-kept.ensures.next in
+    let kept = c.seek-kept.result in
+    let few : kept ≤ c.args.place = kept_room (length c.args.steps.now) c.args.place c.args.height kept c.args.count c.args.steps.now c.requires.place c.requires.count c.requires.steps c.seek-kept.ensures.reached c.seek-kept.ensures.next in
     let up : before (value_at (take c.args.count c.args.steps.now)) c.args.place 1 < c.args.height = omega (arith, c.requires.rising, c.value.ensures, c.if-value-height.false) in
     let put : IsPut (length c.args.steps.now) c.args.place c.args.height (take kept c.args.steps.now) (take (kept + 1) (slice_set c.args.steps.now kept (c.args.place, c.args.height))) =
-    raised_put (length c.args.steps.now) c.args.place c.args.height kept c.args.count c.args.steps.now c.requires.place c.requires.count c.requires.steps c.reach-kept.ensures.reached c.reach-kept.ensures.next (omega (arith, few, c.requires.place)) c.requires.low up in
+    raised_put (length c.args.steps.now) c.args.place c.args.height kept c.args.count c.args.steps.now c.requires.place c.requires.count c.requires.steps c.seek-kept.ensures.reached c.seek-kept.ensures.next (omega (arith, few, c.requires.place)) c.requires.low up in
     put.steps
 
 pub returns-clause-cells : goal.returns-clause-cells
 returns-clause-cells c =
-    let kept = c.reach-kept.result in
-    let few : kept ≤ c.args.place = kept_room (length c.args.steps.now) c.args.place c.args.height kept c.args.count c.args.steps.now c.requires.place c.requires.count c.requires.steps c.reach-kept.ensures.reached c.reach-kept.ensures.next in
+    let kept = c.seek-kept.result in
+    let few : kept ≤ c.args.place = kept_room (length c.args.steps.now) c.args.place c.args.height kept c.args.count c.args.steps.now c.requires.place c.requires.count c.requires.steps c.seek-kept.ensures.reached c.seek-kept.ensures.next in
     let up : before (value_at (take c.args.count c.args.steps.now)) c.args.place 1 < c.args.height = omega (arith, c.requires.rising, c.value.ensures, c.if-value-height.false) in
     let put : IsPut (length c.args.steps.now) c.args.place c.args.height (take kept c.args.steps.now) (take (kept + 1) (slice_set c.args.steps.now kept (c.args.place, c.args.height))) =
-    raised_put (length c.args.steps.now) c.args.place c.args.height kept c.args.count c.args.steps.now c.requires.place c.requires.count c.requires.steps c.reach-kept.ensures.reached c.reach-kept.ensures.next (omega (arith, few, c.requires.place)) c.requires.low up in
-    raised_more (length c.args.steps.now) c.args.place c.args.height kept c.args.count c.args.steps.now c.requires.place c.requires.count c.requires.steps c.reach-kept.ensures.reached c.reach-kept.ensures.next
+    raised_put (length c.args.steps.now) c.args.place c.args.height kept c.args.count c.args.steps.now c.requires.place c.requires.count c.requires.steps c.seek-kept.ensures.reached c.seek-kept.ensures.next (omega (arith, few, c.requires.place)) c.requires.low up in
+    raised_more (length c.args.steps.now) c.args.place c.args.height kept c.args.count c.args.steps.now c.requires.place c.requires.count c.requires.steps c.seek-kept.ensures.reached c.seek-kept.ensures.next
     (take (kept + 1) (slice_set c.args.steps.now kept (c.args.place, c.args.height))) put
