@@ -51,7 +51,7 @@ finish_later order a b job h =
     let in_level : Job → Bool = λ other. nat_le (place order other.task) (place order job.task) in
     let higher : Job → Bool = λ other. nat_lt (place order other.task) (place order job.task) in
     let ticks : delayed r (backlog_at 0 0 (released_until r (level_jobs order job.task a)) r) (released_after r (jobs_above order job.task a))
-        ≤ delayed r (backlog_at 0 0 (released_until r (level_jobs order job.task b)) r) (released_after r (jobs_above order job.task b)) =
+    ≤ delayed r (backlog_at 0 0 (released_until r (level_jobs order job.task b)) r) (released_after r (jobs_above order job.task b)) =
     delayed_later r (released_after r (jobs_above order job.task a)) (released_after r (jobs_above order job.task b)) (filter_later (λ other. nat_lt r other.release) _ _ (filter_later higher a b h)) _ _
     (backlog_later r (released_until r (level_jobs order job.task a)) (released_until r (level_jobs order job.task b)) (filter_later (λ other. nat_le other.release r) _ _ (filter_later in_level a b h)) 0 0 0 (omega arith)) in
     omega (arith, ticks)

@@ -101,8 +101,10 @@ module _ (schedule : ScheduleToBacklog) (early late : List Task) (h : Both IsLat
   miss_later : (a b : List Timed) → jobs_of a ≡ jobs → Each (λ e. 1 ≤ e.time) a → Both IsTimedLater a b →
       one_if (misses order job (deadline_of late job) a) ≤ one_if (misses order job (deadline_of late job) b)
   miss_later a b of_a times both =
-      rw (schedule.miss late (deadline_of late job) order a job (is_listed a of_a times) (deadline_of late job),
-      schedule.miss late (deadline_of late job) order b job (is_listed b (sym (same_jobs a b both) ∙ of_a) (later_times a b times both)) (deadline_of late job))
+      rw (
+        schedule.miss late (deadline_of late job) order a job (is_listed a of_a times) (deadline_of late job),
+        schedule.miss late (deadline_of late job) order b job (is_listed b (sym (same_jobs a b both) ∙ of_a) (later_times a b times both)) (deadline_of late job),
+      )
       (earlier (deadline_of late job) (finish_by_backlog order a job) (finish_by_backlog order b job) (finish_later order a b job both))
     where
       same_jobs : (a b : List Timed) → Both IsTimedLater a b → jobs_of a ≡ jobs_of b
