@@ -26,23 +26,25 @@ use Rattle.prta_certfile.specs.Reading.{fault_of, levels_of}
 use Rattle.prta_cli.specs.declared.input.InputFault.TheVariants.{Times, Certificate, Counts}
 use Rattle.prta_sheet.specs.Accepted.{IsAccepted}
 use Rattle.prta_sheet.specs.Canonical.{canonical_text}
+use Rattle.prta_times.specs.Laws.{CountedAreAccepted, ReducedAreAccepted, ReducedAreSafe}
 use Rattle.prta_times.specs.declared.limits.TheConstants.{COUNTS_LIMIT}
 use Rattle.prta_times.specs.declared.fault.CountsFault.{CountsFault}
 use Rattle.prta_times.specs.declared.fault.CountsFault.TheVariants as counts
-use Rattle.prta_times.specs.Counts.{counts_fault, sheet_with}
+use Rattle.prta_cli.specs.declared.words.Kept.{Kept}
+use Rattle.prta_cli.specs.declared.words.Kept.TheVariants.{AllTimes, AtMost}
 use Rattle.prta_cli.specs.declared.words.SheetCommand.{SheetCommand}
-use Rattle.prta_cli.specs.declared.words.SheetCommand.TheVariants.{Analyse, AnalyseCsv, Ledger, Check, Certify, Assign}
+use Rattle.prta_cli.specs.declared.words.SheetCommand.TheVariants.{Analyse, AnalyseCsv, Ledger, Check, Certify, Tail, Assign}
 use Rattle.prta_cli.specs.declared.words.FilesCommand.{FilesCommand}
 use Rattle.prta_cli.specs.declared.words.FilesCommand.TheVariants.{Verify, Simulate, Import}
 use Rattle.prta_cli.specs.declared.times.TheConstants.{TIMES_LIMIT}
 use Rattle.prta_cli.specs.declared.times.TimesFault.{TimesFault}
 use Rattle.prta_cli.specs.declared.times.TimesFault.TheVariants as times
-use Rattle.prta_cli.specs.Words.{Command, command, of_sheet, of_files, of_seed, sheet_name, second_name}
-use Rattle.prta_cli.specs.Answer.{Answer, Files, answer, answer_to, answer_to_file, answer_to_sheet, answer_to_files, judged, judgement, verification, simulation, importing, told, told_no, plain, refused, input_refused, IsSheetOf, IsCertificateOf, IsSheetWith, IsAcceptedFile, sheet_under}
+use Rattle.prta_cli.specs.Words.{IsInRange, Command, command, of_sheet, of_files, of_seed, sheet_name, second_name}
+use Rattle.prta_cli.specs.Answer.{Answer, Files, answer, answer_to, answer_to_file, answer_to_sheet, answer_to_files, judged, judgement, verification, simulation, counting, kept_fault, sheet_keeping, told, told_no, plain, refused, input_refused, IsSheetOf, IsCertificateOf, IsSheetWith, IsAcceptedFile, sheet_under}
 use Rattle.prta_cli.specs.Times.{times_in, times_fault}
 use Rattle.prta_cli.specs.Ending.{status_of, IsServed, EndsBy}
 use Rattle.prta_writer.specs.Writing.{Took, TookPart}
-use Rattle.prta_cli.specs.Causes.{HoldsFor, HasFailed, SheetFailed, ReadFailed, IsNoted, IsReadFault, IsAcceptedWith, IsOrNoMemory, IsAfterWords}
+use Rattle.prta_cli.specs.Causes.{HoldsFor, HasFailed, SheetFailed, ReadFailed, IsNoted, IsReadFault, IsSafeKeeping, IsOrNoMemory, IsAfterWords}
 
 -- what holds for every shelf's files holds for those of one, where it tells them
 pub each_file : (held : Option Files) (P : Files → Type 0) → ((files : Files) → P files) → IfSome held P
@@ -62,22 +64,23 @@ pub certificate_too_long : (sheet : Sheet) (held : Option (List ℕ)) → IsSome
 certificate_too_long sheet None h = absurd h
 certificate_too_long sheet (Some bytes) h = let long : nat_lt CERT_LIMIT (length bytes) ≡ true = grind (arith, nat_tests) in rw long refl
 
-pub counts_too_long : (sheet : Sheet) (held : Option (List ℕ)) → IsSomeAnd held (λ bytes. COUNTS_LIMIT < length bytes) → importing sheet held ≡ input_refused (Counts counts.TooLong)
-counts_too_long sheet None h = absurd h
-counts_too_long sheet (Some bytes) h = let long : nat_lt COUNTS_LIMIT (length bytes) ≡ true = grind (arith, nat_tests) in rw long refl
+pub counts_too_long : (kept : Kept) (sheet : Sheet) (held : Option (List ℕ)) → IsSomeAnd held (λ bytes. COUNTS_LIMIT < length bytes) → counting kept sheet held ≡ input_refused (Counts counts.TooLong)
+counts_too_long kept sheet None h = absurd h
+counts_too_long AllTimes sheet (Some bytes) h = let long : nat_lt COUNTS_LIMIT (length bytes) ≡ true = grind (arith, nat_tests) in rw long refl
+counts_too_long (AtMost k) sheet (Some bytes) h = let long : nat_lt COUNTS_LIMIT (length bytes) ≡ true = grind (arith, nat_tests) in rw long refl
 
 -- the answer to counts by the sheet that they make, or by the first fault
-pub of_counts : (sheet : Sheet) (held : Option (List ℕ)) (made : Sheet) → IsSheetWith sheet held made → importing sheet held ≡ told (canonical_text made)
-of_counts sheet None made h = absurd h
-of_counts sheet (Some bytes) made h = rw h.0 (ap (λ m. told (canonical_text m)) (sym h.1))
+pub of_counts : (kept : Kept) (sheet : Sheet) (held : Option (List ℕ)) (made : Sheet) → IsSheetWith kept sheet held made → counting kept sheet held ≡ told (canonical_text made)
+of_counts kept sheet None made h = absurd h
+of_counts kept sheet (Some bytes) made h = rw h.0 (ap (λ m. told (canonical_text m)) (sym h.1))
 
-pub of_counts_fault : (sheet : Sheet) (bytes : List ℕ) (fault : CountsFault) → counts_fault sheet bytes ≡ Some fault → importing sheet (Some bytes) ≡ input_refused (Counts fault)
-of_counts_fault sheet bytes fault e = rw e refl
+pub of_counts_fault : (kept : Kept) (sheet : Sheet) (bytes : List ℕ) (fault : CountsFault) → kept_fault kept sheet bytes ≡ Some fault → counting kept sheet (Some bytes) ≡ input_refused (Counts fault)
+of_counts_fault kept sheet bytes fault e = rw e refl
 
--- the sheet that they make is the accepted one
-pub made_accepted : (sheet : Sheet) (held : Option (List ℕ)) (made : Sheet) → IsSheetWith sheet held made → IsAccepted made → IsAcceptedWith sheet held
-made_accepted sheet None made h is = absurd h
-made_accepted sheet (Some bytes) made h is = subst IsAccepted h.1 is
+-- what is made of counts without a fault is on the safe side
+pub safe_keeping : CountedAreAccepted → ReducedAreAccepted → ReducedAreSafe → (kept : Kept) → IsInRange kept → (sheet : Sheet) → IsAccepted sheet → (bytes : List ℕ) → kept_fault kept sheet bytes ≡ None → IsSafeKeeping kept sheet bytes
+safe_keeping accepts reduces safe AllTimes asked sheet is bytes none = accepts sheet bytes is none
+safe_keeping accepts reduces safe (AtMost k) asked sheet is bytes none = (reduces k sheet bytes asked.0 asked.1 is none, safe k sheet bytes asked.0 asked.1 is none)
 
 -- the answer to a certificate by the levels that it states, or by its first fault
 pub of_certificate : (sheet : Sheet) (held : Option (List ℕ)) (levels : List CertLevel) → IsCertificateOf sheet held levels → verification sheet held ≡ judgement sheet levels
@@ -179,11 +182,11 @@ simulation_accepts sheet (Some bytes) = by_fault (times_fault sheet bytes)
     by_fault None = λ e. cc
     by_fault (Some fault) = λ e. cc
 
-importing_accepts : (sheet : Sheet) (held : Option (List ℕ)) → (importing sheet held).status ≢ status.SheetRefused
-importing_accepts sheet None = λ e. cc
-importing_accepts sheet (Some bytes) = by_fault (counts_fault sheet bytes)
+counting_accepts : (kept : Kept) (sheet : Sheet) (held : Option (List ℕ)) → (counting kept sheet held).status ≢ status.SheetRefused
+counting_accepts kept sheet None = λ e. cc
+counting_accepts kept sheet (Some bytes) = by_fault (kept_fault kept sheet bytes)
   where
-    by_fault : (fault : Option CountsFault) → (option_map_or (λ fault. input_refused (Counts fault)) fault (told (canonical_text (sheet_with sheet bytes)))).status ≢ status.SheetRefused
+    by_fault : (fault : Option CountsFault) → (option_map_or (λ fault. input_refused (Counts fault)) fault (told (canonical_text (sheet_keeping kept sheet bytes)))).status ≢ status.SheetRefused
     by_fault None = λ e. cc
     by_fault (Some fault) = λ e. cc
 
@@ -193,12 +196,13 @@ sheet_accepts AnalyseCsv sheet = λ e. cc
 sheet_accepts Ledger sheet = λ e. cc
 sheet_accepts Check sheet = judged_accepts (is_some (failing_job sheet)) (check_text sheet)
 sheet_accepts Certify sheet = λ e. cc
+sheet_accepts Tail sheet = λ e. cc
 sheet_accepts Assign sheet = judged_accepts (not (is_found (verdict sheet))) (assign_text sheet)
 
 files_accepts : (asked : FilesCommand) (held : Option (List ℕ)) (sheet : Sheet) → (answer_to_files asked sheet held).status ≢ status.SheetRefused
 files_accepts Verify held sheet = verification_accepts sheet held
 files_accepts Simulate held sheet = simulation_accepts sheet held
-files_accepts Import held sheet = importing_accepts sheet held
+files_accepts (Import kept) held sheet = counting_accepts kept sheet held
 
 file_accepts : (answers : Sheet → Answer) → ((sheet : Sheet) → (answers sheet).status ≢ status.SheetRefused) → (held : Option (List ℕ)) → IsAcceptedFile held →
     (answer_to_file answers held).status ≢ status.SheetRefused

@@ -10,6 +10,7 @@ use Rattle.prta_certfile.specs.Reading.{fault_of, levels_of}
 use Rattle.prta_sheet.specs.Canonical.{canonical_text}
 use Rattle.prta_report.specs.Analysis.{analyse_text, csv_text, ledger_text, check_text, bench_text, failing_job}
 use Rattle.prta_report.specs.Certificates.{certify_text, verify_text, broken_task}
+use Rattle.prta_report.specs.Tails.{tail_text}
 use Rattle.prta_report.specs.Assignment.{assign_text}
 use Rattle.prta_audsley.specs.Verdict.{verdict}
 use Rattle.prta_writer.specs.Assigning.{is_found}
@@ -18,14 +19,17 @@ use Rattle.prta_cli.specs.declared.status.Status.TheVariants.{Done, No, Usage, S
 use Rattle.prta_cli.specs.declared.input.InputFault.{InputFault}
 use Rattle.prta_cli.specs.declared.input.InputFault.TheVariants.{Times, Certificate, Counts}
 use Rattle.prta_cli.specs.declared.words.SheetCommand.{SheetCommand}
-use Rattle.prta_cli.specs.declared.words.SheetCommand.TheVariants.{Analyse, AnalyseCsv, Ledger, Check, Certify, Assign}
+use Rattle.prta_cli.specs.declared.words.SheetCommand.TheVariants.{Analyse, AnalyseCsv, Ledger, Check, Certify, Tail, Assign}
 use Rattle.prta_cli.specs.declared.words.FilesCommand.{FilesCommand}
 use Rattle.prta_cli.specs.declared.words.FilesCommand.TheVariants.{Verify, Simulate, Import}
 use Rattle.prta_cli.specs.declared.words.SeedCommand.{SeedCommand}
 use Rattle.prta_cli.specs.declared.words.SeedCommand.TheVariants.{Generate, Bench}
 use Rattle.prta_cli.specs.Words.{Command, of_sheet, of_files, of_seed, command}
 use Rattle.prta_gen.specs.Generator.{generated}
-use Rattle.prta_times.specs.Counts.{counts_fault, sheet_with}
+use Rattle.prta_times.specs.declared.fault.CountsFault.{CountsFault}
+use Rattle.prta_times.specs.Counts.{counts_fault, sheet_with, reduced_fault, reduced_sheet}
+use Rattle.prta_cli.specs.declared.words.Kept.{Kept}
+use Rattle.prta_cli.specs.declared.words.Kept.TheVariants.{AllTimes, AtMost}
 use Rattle.prta_cli.specs.Times.{times_in, times_fault}
 use Rattle.prta_report.specs.Trace.{simulate_text}
 use Rattle.prta_cli.specs.Refused.{refused_line, input_line}
@@ -89,10 +93,19 @@ abbrev pub verification : Sheet → Option (List ℕ) → Answer
 verification sheet None = plain ReadFault
 verification sheet (Some bytes) = option_map_or (λ fault. input_refused (Certificate fault)) (fault_of sheet.tasks sheet.settings.cap bytes) (judgement sheet (levels_of sheet.tasks bytes))
 
--- to `import`: the text of the sheet with the tables of the counts that are held under their name
-abbrev pub importing : Sheet → Option (List ℕ) → Answer
-importing sheet None = plain ReadFault
-importing sheet (Some bytes) = option_map_or (λ fault. input_refused (Counts fault)) (counts_fault sheet bytes) (told (canonical_text (sheet_with sheet bytes)))
+-- why counts make no sheet, and the sheet that they make: a table keeps all its times, or is reduced to at most so many
+abbrev pub kept_fault : Kept → Sheet → List ℕ → Option CountsFault
+kept_fault AllTimes sheet bytes = counts_fault sheet bytes
+kept_fault (AtMost k) sheet bytes = reduced_fault k sheet bytes
+
+abbrev pub sheet_keeping : Kept → Sheet → List ℕ → Sheet
+sheet_keeping AllTimes sheet bytes = sheet_with sheet bytes
+sheet_keeping (AtMost k) sheet bytes = reduced_sheet k sheet bytes
+
+-- to `import` and `reduce`: the text of the sheet with the tables that are made of the counts that are held under their name
+abbrev pub counting : Kept → Sheet → Option (List ℕ) → Answer
+counting kept sheet None = plain ReadFault
+counting kept sheet (Some bytes) = option_map_or (λ fault. input_refused (Counts fault)) (kept_fault kept sheet bytes) (told (canonical_text (sheet_keeping kept sheet bytes)))
 
 -- the names of files, and the bytes under them
 abbrev pub Files : Type 0
@@ -105,12 +118,13 @@ answer_to_sheet AnalyseCsv sheet = told (csv_text sheet)
 answer_to_sheet Ledger sheet = told (ledger_text sheet)
 answer_to_sheet Check sheet = checking sheet
 answer_to_sheet Certify sheet = told (certify_text sheet)
+answer_to_sheet Tail sheet = told (tail_text sheet)
 answer_to_sheet Assign sheet = assigning sheet
 
 abbrev pub answer_to_files : FilesCommand → Sheet → Option (List ℕ) → Answer
 answer_to_files Verify sheet held = verification sheet held
 answer_to_files Simulate sheet held = simulation sheet held
-answer_to_files Import sheet held = importing sheet held
+answer_to_files (Import kept) sheet held = counting kept sheet held
 
 -- to what is asked of a generated sheet
 abbrev pub answer_to_seed : SeedCommand → Sheet → Answer
@@ -145,8 +159,8 @@ abbrev pub IsCertificateOf : Sheet → Option (List ℕ) → List CertLevel → 
 IsCertificateOf sheet held levels = IsSomeAnd held (λ bytes. (fault_of sheet.tasks sheet.settings.cap bytes ≡ None) × (levels ≡ levels_of sheet.tasks bytes))
 
 -- no condition refuses the bytes that are held as counts for the sheet, and they make the other one
-abbrev pub IsSheetWith : Sheet → Option (List ℕ) → Sheet → Type 0
-IsSheetWith sheet held made = IsSomeAnd held (λ bytes. (counts_fault sheet bytes ≡ None) × (made ≡ sheet_with sheet bytes))
+abbrev pub IsSheetWith : Kept → Sheet → Option (List ℕ) → Sheet → Type 0
+IsSheetWith kept sheet held made = IsSomeAnd held (λ bytes. (kept_fault kept sheet bytes ≡ None) × (made ≡ sheet_keeping kept sheet bytes))
 
 -- no condition refuses the bytes as a sheet
 abbrev pub IsAcceptedFile : Option (List ℕ) → Type 0

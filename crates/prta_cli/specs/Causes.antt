@@ -9,14 +9,17 @@ use Rattle.prta_cli.specs.declared.input.InputFault.{InputFault}
 use Rattle.prta_certfile.specs.Reading.{levels_of}
 use Rattle.prta_sheet.specs.Accepted.{IsAccepted}
 use Rattle.prta_gen.specs.Generator.{generated}
-use Rattle.prta_times.specs.Counts.{sheet_with}
+use Rattle.prta_times.specs.Counts.{sheet_with, reduced_sheet}
+use Rattle.prta_times.specs.LaterTimes.{IsSafeFor}
+use Rattle.prta_cli.specs.declared.words.Kept.{Kept}
+use Rattle.prta_cli.specs.declared.words.Kept.TheVariants.{AllTimes, AtMost}
 use Rattle.prta_cli.specs.declared.words.SheetCommand.{SheetCommand}
-use Rattle.prta_cli.specs.declared.words.SheetCommand.TheVariants.{Analyse, AnalyseCsv, Ledger, Check, Certify, Assign}
+use Rattle.prta_cli.specs.declared.words.SheetCommand.TheVariants.{Analyse, AnalyseCsv, Ledger, Check, Certify, Tail, Assign}
 use Rattle.prta_cli.specs.declared.words.FilesCommand.{FilesCommand}
 use Rattle.prta_cli.specs.declared.words.FilesCommand.TheVariants.{Verify, Simulate, Import}
 use Rattle.prta_cli.specs.Words.{Command, of_sheet, of_files, of_seed, command, sheet_name, second_name}
 use Rattle.prta_cli.specs.Answer.{Files, answer, err_line, sheet_under, IsAcceptedFile}
-use Rattle.prta_writer.specs.Meaning.{AreAround, AreClose, ChancesPass, AreFound, NumbersHold}
+use Rattle.prta_writer.specs.Meaning.{AreAround, AreClose, ChancesPass, AreFound, LevelsHold, NumbersHold}
 use Rattle.prta_audsley.specs.Verdict.{VerdictHolds}
 use Rattle.prta_cli.specs.Refused.{refused_line, input_line}
 
@@ -50,27 +53,34 @@ IsReadFault held c before now =
 abbrev pub HoldsFor : Sheet → Option (List ℕ) → Type 0
 HoldsFor sheet held = IsSomeAnd held (λ bytes. NumbersHold sheet (levels_of sheet.tasks bytes))
 
--- the sheet with the tables of the held counts is accepted
-abbrev pub IsAcceptedWith : Sheet → Option (List ℕ) → Type 0
-IsAcceptedWith sheet held = IsSomeAnd held (λ bytes. IsAccepted (sheet_with sheet bytes))
+-- the sheet with the tables that are made of the held counts is accepted; and where they are reduced, no exact chance of a miss by the
+-- tables as they were counted is above the one by the sheet's
+abbrev pub IsSafeKeeping : Kept → Sheet → List ℕ → Type 0
+IsSafeKeeping AllTimes sheet bytes = IsAccepted (sheet_with sheet bytes)
+IsSafeKeeping (AtMost k) sheet bytes = IsAccepted (reduced_sheet k sheet bytes) × IsSafeFor (sheet_with sheet bytes).tasks (reduced_sheet k sheet bytes)
+
+abbrev pub IsSafeWith : Kept → Sheet → Option (List ℕ) → Type 0
+IsSafeWith kept sheet held = IsSomeAnd held (IsSafeKeeping kept sheet)
 
 -- what a run that ended with Done shows of the sheet: of `analyse` and `ledger` that each job's numbers are around its exact chance, and
 -- no further apart than its entries add up to; of `check` that each exact chance passes; of `certify` that what is found for each level
--- is so; of `assign` that what the verdict says is so
+-- is so; of `tail` that the steady numbers of each level hold in every hyperperiod; of `assign` that what the verdict says is so
 abbrev pub IsShownOfSheet : SheetCommand → Sheet → Type 0
 IsShownOfSheet Analyse sheet = AreAround sheet × AreClose sheet
 IsShownOfSheet AnalyseCsv sheet = AreAround sheet × AreClose sheet
 IsShownOfSheet Ledger sheet = AreAround sheet × AreClose sheet
 IsShownOfSheet Check sheet = ChancesPass sheet
 IsShownOfSheet Certify sheet = AreFound sheet
+IsShownOfSheet Tail sheet = LevelsHold sheet
 IsShownOfSheet Assign sheet = VerdictHolds sheet
 
 -- of the sheet with the second file: of `verify` that the steady numbers for each list of the certificate hold in every hyperperiod; of
--- `import` that the sheet whose text is written is an accepted one
+-- `import` and `reduce` that the sheet whose text is written is an accepted one, and after `reduce` that its exact chances are on the safe
+-- side of what was counted
 abbrev pub IsShownOfFiles : FilesCommand → Sheet → Option (List ℕ) → Type 0
 IsShownOfFiles Verify sheet held = HoldsFor sheet held
 IsShownOfFiles Simulate sheet held = ⊤
-IsShownOfFiles Import sheet held = IsAcceptedWith sheet held
+IsShownOfFiles (Import kept) sheet held = IsSafeWith kept sheet held
 
 -- of the sheet that is stated under the name; of a generated sheet that it is accepted
 abbrev pub IsShown : Files → Command → Type 0

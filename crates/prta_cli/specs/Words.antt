@@ -1,5 +1,6 @@
 -- The words of the command line.
 use Rattle.std.specs.Prelude.{ℕ, ◌-◌, ◌==◌, ◌^◌, ◌≤◌, ⊤, true, false, Option, Some, None, List, [], ◌∷◌, codes, bytes_eq, if◌then◌else◌}
+use Rattle.prta_mass.specs.declared.table.TheConstants.{POINT_LIMIT}
 use Rattle.prta_number.specs.Decimal.{number_within}
 use Rattle.prta_sheet.specs.declared.limits.TheConstants.{TASK_LIMIT}
 use Rattle.prta_sheet.specs.Document.{◌>>=◌}
@@ -7,9 +8,11 @@ use Rattle.prta_words.specs.Words.{are_good, positional_words, flag_count}
 use Rattle.prta_cli.specs.declared.words.Command.{Command as NamedCommand}
 use Rattle.prta_cli.specs.declared.words.Command.TheVariants.{OfSheet, OfFiles, OfSeed}
 use Rattle.prta_cli.specs.declared.words.SheetCommand.{SheetCommand}
-use Rattle.prta_cli.specs.declared.words.SheetCommand.TheVariants.{Analyse, AnalyseCsv, Ledger, Check, Certify, Assign}
+use Rattle.prta_cli.specs.declared.words.SheetCommand.TheVariants.{Analyse, AnalyseCsv, Ledger, Check, Certify, Tail, Assign}
 use Rattle.prta_cli.specs.declared.words.FilesCommand.{FilesCommand}
 use Rattle.prta_cli.specs.declared.words.FilesCommand.TheVariants.{Verify, Simulate, Import}
+use Rattle.prta_cli.specs.declared.words.Kept.{Kept}
+use Rattle.prta_cli.specs.declared.words.Kept.TheVariants.{AllTimes, AtMost}
 use Rattle.prta_cli.specs.declared.words.SeedCommand.{SeedCommand}
 use Rattle.prta_cli.specs.declared.words.SeedCommand.TheVariants.{Generate, Bench}
 
@@ -22,7 +25,7 @@ pub data Command : Type 0 where
 
 -- ---- the words after the first
 
--- what is made of one name, and of two; None of any other number of names
+-- what is made of one name, of two, and of three; None of any other number of names
 abbrev pub by_name : (List ℕ → Option Command) → List (List ℕ) → Option Command
 by_name made (name ∷ []) = made name
 by_name made _ = None
@@ -30,6 +33,10 @@ by_name made _ = None
 abbrev pub by_names : (List ℕ → List ℕ → Option Command) → List (List ℕ) → Option Command
 by_names made (first ∷ second ∷ []) = made first second
 by_names made _ = None
+
+abbrev pub by_three : (List ℕ → List ℕ → List ℕ → Option Command) → List (List ℕ) → Option Command
+by_three made (first ∷ second ∷ third ∷ []) = made first second third
+by_three made _ = None
 
 -- `analyse`, with the flag for records or without it
 abbrev pub analyse_command : List (List ℕ) → Option Command
@@ -45,6 +52,13 @@ sheet_command asked rest = if are_good false 1 rest then by_name (λ sheet. Some
 -- those that read a second file
 abbrev pub files_command : FilesCommand → List (List ℕ) → Option Command
 files_command asked rest = if are_good false 2 rest then by_names (λ sheet second. Some (of_files sheet second asked)) (positional_words false rest) else None
+
+-- tables of 1 to 32 times
+abbrev pub points_number : List ℕ → List ℕ → List ℕ → Option Command
+points_number sheet counts points = number_within 1 POINT_LIMIT points >>= (λ k. Some (of_files sheet counts (Import (AtMost k))))
+
+abbrev pub reduce_command : List (List ℕ) → Option Command
+reduce_command rest = if are_good false 3 rest then by_three points_number (positional_words false rest) else None
 
 -- a seed below 2^64, and 1 to 12 tasks
 abbrev pub seed_numbers : SeedCommand → List ℕ → List ℕ → Option Command
@@ -63,10 +77,12 @@ command_by word rest =
     else if bytes_eq word (codes "ledger") then sheet_command Ledger rest
     else if bytes_eq word (codes "check") then sheet_command Check rest
     else if bytes_eq word (codes "certify") then sheet_command Certify rest
+    else if bytes_eq word (codes "tail") then sheet_command Tail rest
     else if bytes_eq word (codes "assign") then sheet_command Assign rest
     else if bytes_eq word (codes "verify") then files_command Verify rest
     else if bytes_eq word (codes "simulate") then files_command Simulate rest
-    else if bytes_eq word (codes "import") then files_command Import rest
+    else if bytes_eq word (codes "import") then files_command (Import AllTimes) rest
+    else if bytes_eq word (codes "reduce") then reduce_command rest
     else if bytes_eq word (codes "generate") then seed_command Generate rest
     else if bytes_eq word (codes "bench") then seed_command Bench rest
     else None
@@ -93,8 +109,17 @@ second_name (of_sheet sheet asked) = None
 second_name (of_files sheet second asked) = Some second
 second_name (of_seed seed tasks asked) = None
 
--- a generated sheet has 1 to 12 tasks
-abbrev pub HasTasks : NamedCommand → Type 0
-HasTasks (OfSheet sheet asked) = ⊤
-HasTasks (OfFiles sheet second asked) = ⊤
-HasTasks (OfSeed seed tasks asked) = (1 ≤ tasks) × (tasks ≤ TASK_LIMIT)
+-- reduced tables have 1 to 32 times
+abbrev pub IsInRange : Kept → Type 0
+IsInRange AllTimes = ⊤
+IsInRange (AtMost k) = (1 ≤ k) × (k ≤ POINT_LIMIT)
+
+abbrev pub KeepsInRange : FilesCommand → Type 0
+KeepsInRange (Import kept) = IsInRange kept
+KeepsInRange asked = ⊤
+
+-- the numbers of a command are in their ranges: a generated sheet has 1 to 12 tasks
+abbrev pub HasNumbers : NamedCommand → Type 0
+HasNumbers (OfSheet sheet asked) = ⊤
+HasNumbers (OfFiles sheet second asked) = KeepsInRange asked
+HasNumbers (OfSeed seed tasks asked) = (1 ≤ tasks) × (tasks ≤ TASK_LIMIT)

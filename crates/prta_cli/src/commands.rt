@@ -5,23 +5,27 @@ ghost use Rattle.prta_outside.specs.Sink.{HasRisen};
 ghost use Rattle.prta_certfile.specs.Laws.{AreLevels};
 ghost use Rattle.prta_audsley.specs.Verdict.{VerdictHolds};
 ghost use Rattle.prta_cli.specs.declared.status.Status.{Status};
-ghost use Rattle.prta_cli.specs.Answer.{told, checking, assigning, judgement, verification, simulation, importing};
+ghost use Rattle.prta_cli.specs.Answer.{told, checking, assigning, judgement, verification, simulation, counting};
 ghost use Rattle.prta_cli.specs.Ending.{status_of, line_of, IsServed, EndsBy};
 ghost use Rattle.prta_sheet.specs.Canonical.{canonical_text};
 ghost use Rattle.prta_report.specs.Analysis.{bench_text};
+ghost use Rattle.prta_report.specs.Tails.{tail_text};
+ghost use Rattle.prta_cli.specs.Words.{IsInRange};
 ghost use Rattle.prta_writer.specs.Report.{report_text};
-ghost use Rattle.prta_cli.specs.Causes.{IsAfterWords, IsLine, HoldsFor, IsAcceptedWith};
-ghost use Rattle.prta_writer.specs.Meaning.{AreAround, AreClose, ChancesPass, AreFound, NumbersHold};
+ghost use Rattle.prta_cli.specs.Causes.{IsAfterWords, IsLine, HoldsFor, IsSafeWith};
+ghost use Rattle.prta_writer.specs.Meaning.{AreAround, AreClose, ChancesPass, AreFound, LevelsHold, NumbersHold};
 
 use crate::counts::sheet_with_counts;
 use crate::ending::Ending;
 use crate::simulation::simulation;
 use crate::verification::certificate_under;
+use crate::words::Kept;
 use prta_certfile::Certificate;
 use prta_outside::{Shelf, Sink};
 use prta_sheet::{Sheet, sheet_text};
 use prta_writer::{
-    Room, What, assignment, put_all, write_bench, write_check, write_report, write_verify,
+    Room, What, assignment, put_all, write_bench, write_check, write_report, write_tail,
+    write_verify,
 };
 use std::alloc::Global;
 
@@ -42,6 +46,26 @@ pub fn report<O: Sink>(alloc: Global, sheet: &Sheet, what: What, out: &mut O) ->
         Err(_) => return Ending::NoMemory,
     };
     match write_report(&mut room, sheet, what, out) {
+        Ok(()) => Ending::Done,
+        Err(_) => Ending::WriteFault,
+    }
+}
+
+/// Writes steady numbers for every level of a sheet, by a certificate or by a geometric tail.
+pub fn tail<O: Sink>(alloc: Global, sheet: &Sheet, out: &mut O) -> Ending
+    ensures ends { EndsBy result (told (tail_text sheet.now)) (O.taken out.old) (O.taken out.new) }
+    ensures hold { status_of result ≡ Status.Done → LevelsHold sheet.now }
+    ensures write_fault { status_of result ≡ Status.WriteFault → HasRisen (O.faults out.old) (O.faults out.new) }
+    ensures nothing { ¬ IsServed (status_of result) → status_of result ≢ Status.WriteFault → out.new ≡ out.old }
+    ensures ending { IsAfterWords (status_of result) }
+    ensures no_fault { status_of result ≢ Status.ReadFault }
+    ensures line { IsLine (status_of result) (line_of result) }
+{
+    let mut room = match Room::new(alloc, sheet) {
+        Ok(room) => room,
+        Err(_) => return Ending::NoMemory,
+    };
+    match write_tail(&mut room, sheet, out) {
         Ok(()) => Ending::Done,
         Err(_) => Ending::WriteFault,
     }
@@ -160,16 +184,18 @@ pub fn write_sheet<O: Sink>(alloc: Global, sheet: &Sheet, out: &mut O) -> Ending
     }
 }
 
-/// Writes the canonical text of a sheet with the tables of the counts that are held under a name.
+/// Writes the canonical text of a sheet with the tables that are made of the counts that are held under a name.
 pub fn import<S: Shelf, O: Sink>(
     alloc: Global,
     sheet: &Sheet,
     counts: &str,
+    kept: Kept,
     shelf: &mut S,
     out: &mut O,
 ) -> Ending
-    ensures ends { IfSome (S.held shelf.old) (λ files. EndsBy result (importing sheet.now (files counts.now)) (O.taken out.old) (O.taken out.new)) }
-    ensures accepted { status_of result ≡ Status.Done → IfSome (S.held shelf.old) (λ files. IsAcceptedWith sheet.now (files counts.now)) }
+    requires { IsInRange kept }
+    ensures ends { IfSome (S.held shelf.old) (λ files. EndsBy result (counting kept sheet.now (files counts.now)) (O.taken out.old) (O.taken out.new)) }
+    ensures safe { status_of result ≡ Status.Done → IfSome (S.held shelf.old) (λ files. IsSafeWith kept sheet.now (files counts.now)) }
     ensures write_fault { status_of result ≡ Status.WriteFault → HasRisen (O.faults out.old) (O.faults out.new) }
     ensures nothing { ¬ IsServed (status_of result) → status_of result ≢ Status.WriteFault → out.new ≡ out.old }
     ensures ending { IsAfterWords (status_of result) }
@@ -178,7 +204,7 @@ pub fn import<S: Shelf, O: Sink>(
     ensures line { IsLine (status_of result) (line_of result) }
     ensures kept { S.held shelf.new ≡ S.held shelf.old }
 {
-    let made = match sheet_with_counts(alloc, sheet, counts, shelf) {
+    let made = match sheet_with_counts(alloc, sheet, counts, kept, shelf) {
         Ok(made) => made,
         Err(ending) => return ending,
     };

@@ -6,13 +6,13 @@ ghost use Rattle.prta_words.specs.Words.{texts};
 ghost use Rattle.prta_sheet.specs.Accepted.{IsAccepted};
 ghost use Rattle.prta_sheet.specs.declared.limits.TheConstants.{TASK_LIMIT};
 ghost use Rattle.prta_gen.specs.Generator.{generated};
-ghost use Rattle.prta_cli.specs.Words.{command, command_of, HasTasks};
+ghost use Rattle.prta_cli.specs.Words.{command, command_of, KeepsInRange, HasNumbers};
 ghost use Rattle.prta_cli.specs.Answer.{answer, answer_to, answer_to_file, answer_to_sheet, answer_to_files, answer_to_seed, sheet_under as stated_under, IsAcceptedFile};
 ghost use Rattle.prta_cli.specs.Ending.{status_of, line_of, IsServed, EndsBy};
 ghost use Rattle.prta_cli.specs.Causes.{SheetFailed, ReadFailed, IsReadFault, IsShown, IsShownByNo, IsShownOfSheet, IsShownByNoOf, IsShownOfFiles, AnswerIs, IsOrNoMemory, IsAfterWords, IsLine, IsLineFor};
 ghost use Rattle.prta_writer.specs.Writing.{Took, TookPart, TookLine};
 
-use crate::commands::{assign, bench, check, import, report, simulate, verify, write_sheet};
+use crate::commands::{assign, bench, check, import, report, simulate, tail, verify, write_sheet};
 use crate::ending::Ending;
 use crate::sheet::sheet_under;
 use crate::status::Status;
@@ -107,7 +107,7 @@ fn obey<S: Shelf, O: Sink>(alloc: Global, words: &[String], shelf: &mut S, out: 
 
 // Does what a command asks for.
 fn follow<S: Shelf, O: Sink>(alloc: Global, command: Command, shelf: &mut S, out: &mut O) -> Ending
-    requires { HasTasks command }
+    requires { HasNumbers command }
     ensures ends { IfSome (S.held shelf.old) (λ files. EndsBy result (answer_to files (command_of command.entry)) (O.taken out.old) (O.taken out.new)) }
     ensures shown { status_of result ≡ Status.Done → IfSome (S.held shelf.old) (λ files. IsShown files (command_of command.entry)) }
     ensures shown_by_no { status_of result ≡ Status.No → IfSome (S.held shelf.old) (λ files. IsShownByNo files (command_of command.entry)) }
@@ -171,6 +171,7 @@ fn of_sheet<O: Sink>(alloc: Global, sheet: &Sheet, asked: SheetCommand, out: &mu
         SheetCommand::Ledger => report(alloc, sheet, What::Ledger, out),
         SheetCommand::Check => check(alloc, sheet, out),
         SheetCommand::Certify => report(alloc, sheet, What::Certify, out),
+        SheetCommand::Tail => tail(alloc, sheet, out),
         SheetCommand::Assign => assign(alloc, sheet, out),
     }
 }
@@ -184,6 +185,7 @@ fn with_files<S: Shelf, O: Sink>(
     shelf: &mut S,
     out: &mut O,
 ) -> Ending
+    requires { KeepsInRange asked }
     ensures ends { IfSome (S.held shelf.old) (λ files. EndsBy result (answer_to_file (λ sheet. answer_to_files asked sheet (files second.now)) (files name.now)) (O.taken out.old) (O.taken out.new)) }
     ensures shown { status_of result ≡ Status.Done → IfSome (S.held shelf.old) (λ files. IsSomeAnd (stated_under files name.now) (λ sheet. IsShownOfFiles asked sheet (files second.now))) }
     ensures ending { IsAfterWords (status_of result) }
@@ -211,6 +213,7 @@ fn of_files<S: Shelf, O: Sink>(
     shelf: &mut S,
     out: &mut O,
 ) -> Ending
+    requires { KeepsInRange asked }
     ensures ends { IfSome (S.held shelf.old) (λ files. EndsBy result (answer_to_files asked sheet.now (files second.now)) (O.taken out.old) (O.taken out.new)) }
     ensures shown { status_of result ≡ Status.Done → IfSome (S.held shelf.old) (λ files. IsShownOfFiles asked sheet.now (files second.now)) }
     ensures ending { IsAfterWords (status_of result) }
@@ -224,7 +227,7 @@ fn of_files<S: Shelf, O: Sink>(
     match asked {
         FilesCommand::Verify => verify(alloc, sheet, second, shelf, out),
         FilesCommand::Simulate => simulate(alloc, sheet, second, shelf, out),
-        FilesCommand::Import => import(alloc, sheet, second, shelf, out),
+        FilesCommand::Import(kept) => import(alloc, sheet, second, kept, shelf, out),
     }
 }
 

@@ -5,6 +5,7 @@ mod counts;
 mod orders;
 mod reports;
 mod sheets;
+mod tails;
 mod traces;
 
 use crate::run::run;
@@ -20,6 +21,7 @@ use reports::{
 use sheets::{AS_IT_IS, PAIR, QUARTER_TEXT, SHEETS, Text, bytes_of};
 use std::alloc::Global;
 use std::test::Fail;
+use tails::{FOUR_COUNTS, MIXED, MIXED_TAILS, REDUCED, TAILS, TWO_LEFT};
 use traces::{LONG, LONG_END, LONG_START, PAIR_TIMES, PAIR_TRACE, TIMES};
 
 // A run of the program, and what it is to end with.
@@ -58,6 +60,10 @@ const VERIFY_WORDS: &[&str] = &["verify", NAME, SECOND];
 const TRACE_WORDS: &[&str] = &["simulate", NAME, SECOND];
 
 const IMPORT_WORDS: &[&str] = &["import", NAME, SECOND];
+
+const TAIL_WORDS: &[&str] = &["tail", NAME];
+
+const REDUCE_WORDS: &[&str] = &["reduce", NAME, SECOND, "2"];
 
 // Nothing fails.
 const SERVED: Case = Case {
@@ -139,6 +145,20 @@ const IMPORTED: Case = Case {
     ..SERVED
 };
 
+const TAILED: Case = Case {
+    words: TAIL_WORDS,
+    sheet: Text::Given(MIXED),
+    out: MIXED_TAILS,
+    ..SERVED
+};
+
+const LESSENED: Case = Case {
+    words: REDUCE_WORDS,
+    second: Text::Given(FOUR_COUNTS),
+    out: TWO_LEFT,
+    ..SERVED
+};
+
 // No file is read.
 const MADE: Case = Case {
     words: &["generate", "1", "1"],
@@ -193,7 +213,7 @@ const TIMES_REFUSAL: Case = Case {
 };
 
 // Words that are no command.
-static OTHER_COMMANDS: [&[&str]; 34] = [
+static OTHER_COMMANDS: [&[&str]; 41] = [
     &[],
     &["analyse"],
     &["analyze", NAME],
@@ -228,6 +248,13 @@ static OTHER_COMMANDS: [&[&str]; 34] = [
     &["generate", "1", "0"],
     &["generate", "18446744073709551616", "1"],
     &["bench", "1", "x"],
+    &["tail"],
+    &["tail", NAME, SECOND],
+    &["reduce", NAME, SECOND],
+    &["reduce", NAME, SECOND, "0"],
+    &["reduce", NAME, SECOND, "33"],
+    &["reduce", NAME, SECOND, "02"],
+    &["reduce", NAME, SECOND, "2", "2"],
 ];
 
 // Faults of the shelf and faults of the sinks.
@@ -507,8 +534,55 @@ static NEWEST_CASES: [Case; 16] = [
     },
 ];
 
+// The same for `tail` and `reduce`.
+static LAST_CASES: [Case; 9] = [
+    TAILED,
+    Case {
+        most: 10,
+        err_room: 0,
+        ..TAILED
+    },
+    Case {
+        words: TAIL_WORDS,
+        ..UNREAD
+    },
+    Case {
+        words: TAIL_WORDS,
+        sheet: Text::Given(MIXED),
+        out: "prta tail ",
+        ..UNWRITTEN
+    },
+    Case {
+        most: 10,
+        failing_read: 3,
+        err_room: 0,
+        ..LESSENED
+    },
+    Case {
+        words: REDUCE_WORDS,
+        failing_read: 2,
+        ..UNREAD
+    },
+    Case {
+        words: &["reduce", NAME, "t", "1"],
+        failing_read: 0,
+        ..UNREAD
+    },
+    Case {
+        words: &["reduce", "--", "-s.toml", SECOND, "2"],
+        name: "-s.toml",
+        ..LESSENED
+    },
+    Case {
+        words: REDUCE_WORDS,
+        second: Text::Given(FOUR_COUNTS),
+        out: "format = 1",
+        ..UNWRITTEN
+    },
+];
+
 // The other commands, with nothing to read but the sheet.
-static OTHER_WORDS: [&[&str]; 8] = [
+static OTHER_WORDS: [&[&str]; 10] = [
     LEDGER_WORDS,
     CHECK_WORDS,
     CERTIFY_WORDS,
@@ -517,6 +591,8 @@ static OTHER_WORDS: [&[&str]; 8] = [
     &["simulate", NAME, "t"],
     &["import", NAME, "t"],
     &["analyse", NAME, "--csv"],
+    TAIL_WORDS,
+    &["reduce", NAME, "t", "2"],
 ];
 
 const MANY_ANALYSED: Case = Case {
@@ -640,6 +716,14 @@ fn every_newest_case_ends_so(rt: HostRuntime) -> Result<(), Fail> {
 }
 
 #[test]
+fn every_last_case_ends_so(rt: HostRuntime) -> Result<(), Fail> {
+    for (i, case) in LAST_CASES.iter().enumerate() {
+        assert!(rt; ends_so(rt.alloc(), case)?, "case {i}");
+    }
+    Ok(())
+}
+
+#[test]
 fn other_words_are_no_command(rt: HostRuntime) -> Result<(), Fail> {
     for (i, words) in OTHER_COMMANDS.iter().enumerate() {
         let case = Case { words, ..USAGE };
@@ -709,6 +793,19 @@ fn every_certificate_is_found_so(rt: HostRuntime) -> Result<(), Fail> {
             ..CERTIFIED
         };
         assert!(rt; ends_so(rt.alloc(), &case)?, "certificate {i}");
+    }
+    Ok(())
+}
+
+#[test]
+fn every_tail_is_found_so(rt: HostRuntime) -> Result<(), Fail> {
+    for (i, (sheet, text)) in TAILS.iter().enumerate() {
+        let case = Case {
+            sheet: *sheet,
+            out: text,
+            ..TAILED
+        };
+        assert!(rt; ends_so(rt.alloc(), &case)?, "tail {i}");
     }
     Ok(())
 }
@@ -792,6 +889,20 @@ fn every_file_of_counts_ends_so(rt: HostRuntime) -> Result<(), Fail> {
     Ok(())
 }
 
+#[test]
+fn every_reduction_ends_so(rt: HostRuntime) -> Result<(), Fail> {
+    for (i, (sheet, counts, words, status, text)) in REDUCED.iter().enumerate() {
+        let case = Case {
+            words,
+            sheet: *sheet,
+            second: *counts,
+            ..ending(LESSENED, *status, text)
+        };
+        assert!(rt; ends_so(rt.alloc(), &case)?, "reduction {i}");
+    }
+    Ok(())
+}
+
 // A seed makes the same sheet, and its analysis the same sums, each time.
 #[test]
 fn every_seed_ends_so(rt: HostRuntime) -> Result<(), Fail> {
@@ -811,6 +922,7 @@ fn every_seed_ends_so(rt: HostRuntime) -> Result<(), Fail> {
 fn a_full_out_has_a_prefix(rt: HostRuntime) -> Result<(), Fail> {
     for served in [
         SERVED, RECORDED, LEDGER, CHECKED, PASSED, CERTIFIED, VERIFIED, TRACED, IMPORTED, SUMMED,
+        TAILED, LESSENED,
     ] {
         let text = served.out.as_bytes();
         for room in 0..text.len() {

@@ -2,11 +2,12 @@
 
 ghost use Rattle.std.specs.Prelude.{◌≡◌, ◌≤◌, Some, None, IfOk, IfErr};
 ghost use Rattle.prta_words.specs.Words.{texts};
-ghost use Rattle.prta_cli.specs.Words.{command, command_of, command_by, analyse_command, sheet_command, files_command, seed_command, seed_numbers, HasTasks};
+ghost use Rattle.prta_cli.specs.Words.{command, command_of, command_by, analyse_command, sheet_command, files_command, reduce_command, points_number, seed_command, seed_numbers, KeepsInRange, HasNumbers};
 
+use prta_mass::POINT_LIMIT;
 use prta_number::number_within;
 use prta_sheet::TASK_LIMIT;
-use prta_words::{WordsFault, one_word, sheet_words, two_words};
+use prta_words::{WordsFault, one_word, sheet_words, three_words, two_words};
 use std::alloc::Global;
 
 /// What is asked of a sheet.
@@ -17,6 +18,7 @@ pub enum SheetCommand {
     Ledger,
     Check,
     Certify,
+    Tail,
     Assign,
 }
 
@@ -25,7 +27,17 @@ pub enum SheetCommand {
 pub enum FilesCommand {
     Verify,
     Simulate,
-    Import,
+    /// `import`, which keeps all times, and `reduce`.
+    Import(Kept),
+}
+
+/// Which of the counted times a table keeps.
+#[derive(Clone, Copy)]
+pub enum Kept {
+    /// All of them.
+    AllTimes,
+    /// At most so many, to which the others are moved up.
+    AtMost(usize),
 }
 
 /// What is asked of a generated sheet.
@@ -50,7 +62,7 @@ pub enum Command<'a> {
 pub fn command_from<'a>(alloc: Global, words: &'a [String]) -> Result<Command<'a>, WordsFault>
     ensures good { IfOk result (λ found. command (texts words.now) ≡ Some (command_of found)) }
     ensures bad { IfErr result (λ fault. fault ≡ WordsFault.Usage → command (texts words.now) ≡ None) }
-    ensures tasks { IfOk result HasTasks }
+    ensures numbers { IfOk result HasNumbers }
 {
     match words {
         [word, rest @ ..] => command_by(alloc, word.as_str(), rest),
@@ -62,17 +74,19 @@ pub fn command_from<'a>(alloc: Global, words: &'a [String]) -> Result<Command<'a
 fn command_by<'a>(alloc: Global, word: &str, rest: &'a [String]) -> Result<Command<'a>, WordsFault>
     ensures good { IfOk result (λ found. command_by word.now (texts rest.now) ≡ Some (command_of found)) }
     ensures bad { IfErr result (λ fault. fault ≡ WordsFault.Usage → command_by word.now (texts rest.now) ≡ None) }
-    ensures tasks { IfOk result HasTasks }
+    ensures numbers { IfOk result HasNumbers }
 {
     match word {
         "analyse" => analyse_command(alloc, rest),
         "ledger" => sheet_command(alloc, SheetCommand::Ledger, rest),
         "check" => sheet_command(alloc, SheetCommand::Check, rest),
         "certify" => sheet_command(alloc, SheetCommand::Certify, rest),
+        "tail" => sheet_command(alloc, SheetCommand::Tail, rest),
         "assign" => sheet_command(alloc, SheetCommand::Assign, rest),
         "verify" => files_command(alloc, FilesCommand::Verify, rest),
         "simulate" => files_command(alloc, FilesCommand::Simulate, rest),
-        "import" => files_command(alloc, FilesCommand::Import, rest),
+        "import" => files_command(alloc, FilesCommand::Import(Kept::AllTimes), rest),
+        "reduce" => reduce_command(alloc, rest),
         "generate" => seed_command(alloc, SeedCommand::Generate, rest),
         "bench" => seed_command(alloc, SeedCommand::Bench, rest),
         _ => Err(WordsFault::Usage),
@@ -83,7 +97,7 @@ fn command_by<'a>(alloc: Global, word: &str, rest: &'a [String]) -> Result<Comma
 fn analyse_command<'a>(alloc: Global, rest: &'a [String]) -> Result<Command<'a>, WordsFault>
     ensures good { IfOk result (λ found. analyse_command (texts rest.now) ≡ Some (command_of found)) }
     ensures bad { IfErr result (λ fault. fault ≡ WordsFault.Usage → analyse_command (texts rest.now) ≡ None) }
-    ensures tasks { IfOk result HasTasks }
+    ensures numbers { IfOk result HasNumbers }
 {
     match sheet_words(alloc, rest) {
         Ok(read) if read.csv => Ok(Command::OfSheet(read.sheet, SheetCommand::AnalyseCsv)),
@@ -100,7 +114,7 @@ fn sheet_command<'a>(
 ) -> Result<Command<'a>, WordsFault>
     ensures good { IfOk result (λ found. sheet_command asked (texts rest.now) ≡ Some (command_of found)) }
     ensures bad { IfErr result (λ fault. fault ≡ WordsFault.Usage → sheet_command asked (texts rest.now) ≡ None) }
-    ensures tasks { IfOk result HasTasks }
+    ensures numbers { IfOk result HasNumbers }
 {
     match one_word(alloc, rest) {
         Ok(sheet) => Ok(Command::OfSheet(sheet, asked)),
@@ -114,13 +128,46 @@ fn files_command<'a>(
     asked: FilesCommand,
     rest: &'a [String],
 ) -> Result<Command<'a>, WordsFault>
+    requires { KeepsInRange asked }
     ensures good { IfOk result (λ found. files_command asked (texts rest.now) ≡ Some (command_of found)) }
     ensures bad { IfErr result (λ fault. fault ≡ WordsFault.Usage → files_command asked (texts rest.now) ≡ None) }
-    ensures tasks { IfOk result HasTasks }
+    ensures numbers { IfOk result HasNumbers }
 {
     match two_words(alloc, rest) {
         Ok(read) => Ok(Command::OfFiles(read.first, read.second, asked)),
         Err(fault) => Err(fault),
+    }
+}
+
+// The names of a sheet and of counts, and how many times a table may have.
+fn reduce_command<'a>(alloc: Global, rest: &'a [String]) -> Result<Command<'a>, WordsFault>
+    ensures good { IfOk result (λ found. reduce_command (texts rest.now) ≡ Some (command_of found)) }
+    ensures bad { IfErr result (λ fault. fault ≡ WordsFault.Usage → reduce_command (texts rest.now) ≡ None) }
+    ensures numbers { IfOk result HasNumbers }
+{
+    match three_words(alloc, rest) {
+        Ok(read) => points_number(read.first, read.second, read.third),
+        Err(fault) => Err(fault),
+    }
+}
+
+// The number of times.
+fn points_number<'a>(
+    sheet: &'a str,
+    counts: &'a str,
+    points: &str,
+) -> Result<Command<'a>, WordsFault>
+    ensures good { IfOk result (λ found. points_number sheet.now counts.now points.now ≡ Some (command_of found)) }
+    ensures bad { IfErr result (λ fault. fault ≡ WordsFault.Usage → points_number sheet.now counts.now points.now ≡ None) }
+    ensures numbers { IfOk result HasNumbers }
+{
+    match number_within(points.as_bytes(), 1, POINT_LIMIT as u64) {
+        Some(points) => Ok(Command::OfFiles(
+            sheet,
+            counts,
+            FilesCommand::Import(Kept::AtMost(points as usize)),
+        )),
+        None => Err(WordsFault::Usage),
     }
 }
 
@@ -132,7 +179,7 @@ fn seed_command<'a>(
 ) -> Result<Command<'a>, WordsFault>
     ensures good { IfOk result (λ found. seed_command asked (texts rest.now) ≡ Some (command_of found)) }
     ensures bad { IfErr result (λ fault. fault ≡ WordsFault.Usage → seed_command asked (texts rest.now) ≡ None) }
-    ensures tasks { IfOk result HasTasks }
+    ensures numbers { IfOk result HasNumbers }
 {
     match two_words(alloc, rest) {
         Ok(read) => seed_numbers(asked, read.first, read.second),
@@ -144,7 +191,7 @@ fn seed_command<'a>(
 fn seed_numbers<'a>(asked: SeedCommand, seed: &str, tasks: &str) -> Result<Command<'a>, WordsFault>
     ensures good { IfOk result (λ found. seed_numbers asked seed.now tasks.now ≡ Some (command_of found)) }
     ensures bad { IfErr result (λ fault. fault ≡ WordsFault.Usage → seed_numbers asked seed.now tasks.now ≡ None) }
-    ensures tasks { IfOk result HasTasks }
+    ensures numbers { IfOk result HasNumbers }
 {
     let seed = match number_within(seed.as_bytes(), 0, u64::MAX) {
         Some(seed) => seed,

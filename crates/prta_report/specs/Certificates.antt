@@ -58,13 +58,20 @@ steady_in sheet i cells k = steady_number sheet.tasks (sheet_level i) cells (nth
 abbrev pub jobs_in_turn : Sheet → ℕ → ℕ
 jobs_in_turn sheet i = hyperperiod sheet.tasks / (task_at sheet.tasks i).period
 
--- a line for each job of the first hyperperiod, in order of number
+-- a line with a number for each job of the first hyperperiod, in order of the jobs' numbers
+abbrev pub rows_of : Sheet → ℕ → (ℕ → ℕ) → List ℕ
+rows_of sheet i number = flat_map (λ k. steady_line (name_of sheet i) k (number k)) (range_with_len 0 (jobs_in_turn sheet i))
+
 abbrev pub steady_rows : Sheet → ℕ → List ℕ → List ℕ
-steady_rows sheet i cells = flat_map (λ k. steady_line (name_of sheet i) k (steady_in sheet i cells k)) (range_with_len 0 (jobs_in_turn sheet i))
+steady_rows sheet i cells = rows_of sheet i (steady_in sheet i cells)
+
+-- the rows of a level with a list that certifies it
+abbrev pub certified_rows : Sheet → ℕ → List ℕ → List ℕ
+certified_rows sheet i cells = certified_line (name_of sheet i) ++ steady_rows sheet i cells
 
 -- the rows of a task, where no list is broken
 abbrev pub level_rows : Sheet → ℕ → CertLevel → List ℕ
-level_rows sheet i (Steps steps) = certified_line (name_of sheet i) ++ steady_rows sheet i (cells_by_steps sheet.settings.cap steps)
+level_rows sheet i (Steps steps) = certified_rows sheet i (cells_by_steps sheet.settings.cap steps)
 level_rows sheet i level = uncertified_line (name_of sheet i)
 
 abbrev pub verify_rows : Sheet → List CertLevel → ℕ → List ℕ

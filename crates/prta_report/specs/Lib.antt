@@ -10,3 +10,4 @@ pub mod WorkedTexts
 pub mod WorkedCertificates
 pub mod Assignment
 pub mod WorkedAssignments
+pub mod Tails

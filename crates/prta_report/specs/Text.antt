@@ -10,6 +10,7 @@ use Rattle.prta_ledger.specs.declared.entry.Entry.{Entry}
 use Rattle.prta_ledger.specs.declared.entry.Kind.{Kind}
 use Rattle.prta_ledger.specs.declared.entry.Kind.TheVariants.{Round, Cut, Resample, Delay}
 use Rattle.prta_dual.specs.declared.bounds.Bounds.{Bounds}
+use Rattle.prta_tail.specs.declared.ratio.Ratio.{Ratio}
 
 -- a sheet's hyperperiod and its number of analysed jobs
 unfoldable pub count_line : ℕ → ℕ → List ℕ
@@ -86,6 +87,11 @@ certified_line name = codes "level " ++ name ++ codes " certified\n"
 
 unfoldable pub uncertified_line : List ℕ → List ℕ
 uncertified_line name = codes "uncertified " ++ name ++ codes "\n"
+
+-- a level that no list certifies, and whose backlog has a geometric tail: its ratio, and the worst-case backlog from which it falls
+unfoldable pub tail_line : List ℕ → Ratio → ℕ → List ℕ
+tail_line name ratio worst =
+    codes "tail " ++ name ++ codes " " ++ decimal ratio.p ++ codes " " ++ decimal ratio.q ++ codes " " ++ decimal worst ++ codes "\n"
 
 -- a job's steady number, as it is and as a decimal
 unfoldable pub steady_line : List ℕ → ℕ → ℕ → List ℕ

@@ -9,6 +9,7 @@ mod model;
 mod number;
 mod page;
 mod run;
+mod tail;
 #[cfg(test)]
 mod tests;
 
@@ -27,3 +28,4 @@ pub use model::{
 pub use number::push_number;
 pub use page::{LINE, Page};
 pub use run::run_line;
+pub use tail::tail_line;

@@ -12,4 +12,8 @@ pub mod StepRows
 pub mod FoundLevels
 pub mod LevelMeanings
 pub mod Stated
+pub mod NumberRows
+pub mod TailMeanings
+pub mod TailNumbers
+pub mod TailRows
 pub mod AddedUp

@@ -54,7 +54,16 @@ pub on_err : {T E P Q : Type 0} (result : Result T E) → OnErr result P → (P 
 on_err (Ok value) h f = tt
 on_err (Err fault) h f = f h
 
+-- what holds anyway holds on a fault
+pub anyway : {T E P : Type 0} (result : Result T E) → P → OnErr result P
+anyway (Ok value) h = tt
+anyway (Err fault) h = h
+
 -- a page keeps its size where bytes are pushed that have room
 pub size_pushed : (new old : PageParts) (bytes : List ℕ) → new ≡ record { written = old.written ++ bytes; spare = old.spare - length bytes } → length bytes ≤ old.spare →
     length new.written + new.spare ≡ length old.written + old.spare
 size_pushed new old bytes e fits = ap (λ (p : PageParts). length p.written + p.spare) e ∙ omega (arith, fits, length-append old.written bytes)
+
+-- what holds of a call holds of what hands on its answer
+pub handed_on : {T E S : Type 0} (P : Result T E → S → Type 0) (r s : Result T E) (a b : S) → r ≡ s → a ≡ b → P s b → P r a
+handed_on P r s a b e f h = subst (λ x. P x a) (sym e) (subst (P s) (sym f) h)

@@ -1,21 +1,13 @@
 -- The levels of a certificate, task by task.
-use Rattle.std.proofs.Common.{◌≡◌, ℕ, zero, suc, ◌+◌, ◌-◌, ◌<◌, ◌≤◌, ◌++◌, Bool, true, false, is_some, Option, Some, None, find, List, length, get_or, All, map, flat_map, codes, refl, ap, ap₂, sym, ◌∙◌, arith, inl, inr}
+use Rattle.std.proofs.Common.{◌≡◌, ℕ, suc, ◌+◌, ◌-◌, ◌<◌, ◌≤◌, ◌++◌, Bool, true, false, is_some, Option, Some, None, find, List, length, get_or, codes, refl, ap, sym, ◌∙◌, arith}
 use Rattle.std.specs.List.{range_with_len}
 use Rattle.std.specs.Option.{option_map_or}
-use Rattle.std.proofs.lemmas.Bool.{cases_lt}
-use Rattle.std.proofs.lemmas.List.Elements.{All-map, All-same}
 use Rattle.std.proofs.lemmas.List.{get_or_read}
-use Rattle.std.proofs.lemmas.List.FromFn.{length-map-range_with_len, get_or-map-range_with_len}
-use Rattle.prta_mass.specs.Unit.{unit}
 use Rattle.prta_sheet.specs.Sheet.{Sheet}
-use Rattle.prta_sheet.specs.Counts.{job_count}
-use Rattle.prta_sheet.specs.Accepted.{IsAccepted}
 use Rattle.prta_dist.specs.declared.effect.Break.{Break}
 use Rattle.prta_certfile.specs.declared.level.CertLevel.{CertLevel}
-use Rattle.prta_certificate.proofs.FirstJobs.{is_analysed}
-use Rattle.prta_report.specs.Text.{steady_line, broken_line}
-use Rattle.prta_report.specs.Certificates.{name_of, stated_at, broken_in, broken_text, broken_task, jobs_in_turn, steady_in, steady_rows, steady_text, verify_text}
-use Rattle.prta_writer.specs.Verifying.{steady_lines}
+use Rattle.prta_report.specs.Text.{broken_line}
+use Rattle.prta_report.specs.Certificates.{name_of, stated_at, broken_in, broken_text, broken_task, steady_text, verify_text}
 
 -- the level that was read is the one that is stated of the task
 pub stated_read : (levels : List CertLevel) (i : ℕ) (level : CertLevel) → i < length levels → level ≡ get_or levels i level → level ≡ stated_at levels i
@@ -64,39 +56,3 @@ text_of_broken sheet levels i at first there =
 pub text_of_whole : (sheet : Sheet) (levels : List CertLevel) → None ≡ broken_task sheet levels → codes "prta verify 1\n" ++ steady_text sheet levels ≡ verify_text sheet levels
 text_of_whole sheet levels none =
     ap (λ found. codes "prta verify 1\n" ++ option_map_or (λ j. broken_text sheet j (broken_in sheet j (stated_at levels j))) found (steady_text sheet levels)) none
-
--- ---- steady numbers
-
--- a hyperperiod has no more of a task's jobs than are analysed
-pub few_in_turn : (sheet : Sheet) (i : ℕ) → IsAccepted sheet → i < length sheet.tasks → jobs_in_turn sheet i ≤ job_count sheet i
-few_in_turn sheet i is low =
-    elim (cases_lt 0 (jobs_in_turn sheet i)) [
-      | inl some ↦ omega (arith, is_analysed sheet i is low (jobs_in_turn sheet i - 1) (omega arith))
-      | inr none ↦ omega (arith, none)
-    ]
-
--- the line of a number that was found
-abbrev pub number_row : Sheet → ℕ → List ℕ → ℕ → List ℕ
-number_row sheet i found k = steady_line (name_of sheet i) k (get_or found k 0)
-
--- lines that are the same for each number of a range
-lines_same : (f g : ℕ → List ℕ) (k n : ℕ) → ((j : ℕ) → k ≤ j → j < k + n → f j ≡ g j) → flat_map f (range_with_len k n) ≡ flat_map g (range_with_len k n)
-lines_same f g k zero same = refl
-lines_same f g k (suc n) same = ap₂ (λ a b. a ++ b) (same k (omega arith) (omega arith)) (lines_same f g (k + 1) n (λ j low high. same j (omega arith) (omega arith)))
-
--- the lines of the numbers that were found are the rows
-pub lines_are_rows : (sheet : Sheet) (i : ℕ) (cells found : List ℕ) (n : ℕ) → n ≡ jobs_in_turn sheet i → found ≡ map (steady_in sheet i cells) (range_with_len 0 n) →
-    steady_lines sheet i found ≡ steady_rows sheet i cells
-lines_are_rows sheet i cells found n count e =
-    let size : length found ≡ n = ap length e ∙ length-map-range_with_len (steady_in sheet i cells) 0 n in
-    let all : length found ≡ jobs_in_turn sheet i = size ∙ count in
-    lines_same (number_row sheet i found) (λ k. steady_line (name_of sheet i) k (steady_in sheet i cells k)) 0 (length found)
-    (λ j low high.
-    ap (steady_line (name_of sheet i) j) (ap (λ xs. get_or xs j 0) e ∙ get_or-map-range_with_len (steady_in sheet i cells) 0 n j j 0 (omega (arith, high, size)) (omega arith)))
-    ∙ ap (λ m. flat_map (λ k. steady_line (name_of sheet i) k (steady_in sheet i cells k)) (range_with_len 0 m)) all
-
--- none is more than the unit
-pub low_numbers : (sheet : Sheet) (i : ℕ) (cells found : List ℕ) (n : ℕ) → found ≡ map (steady_in sheet i cells) (range_with_len 0 n) → All (λ upper. upper ≤ unit) found
-low_numbers sheet i cells found n e =
-    All-same (λ upper. upper ≤ unit) found (map (steady_in sheet i cells) (range_with_len 0 n)) e
-    (All-map (λ upper. upper ≤ unit) (steady_in sheet i cells) (range_with_len 0 n) (λ k d low. omega arith))

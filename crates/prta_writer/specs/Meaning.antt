@@ -1,5 +1,5 @@
 -- What the numbers of a text mean, under the sheet's own order of priorities.
-use Rattle.std.specs.Prelude.{ℕ, ◌+◌, ◌*◌, ◌≤◌, ◌<◌, List, length, All, ⊤}
+use Rattle.std.specs.Prelude.{ℕ, ◌+◌, ◌*◌, ◌≤◌, ◌<◌, List, length, All, ⊤, IfSome}
 use Rattle.prta_sheet.specs.Sheet.{Task, Sheet, task_at, sheet_order}
 use Rattle.prta_sheet.specs.Job.{Job, analysed_jobs}
 use Rattle.prta_sheet.specs.Chance.{miss_weight, chance_total, IsAround}
@@ -7,7 +7,12 @@ use Rattle.prta_backlog.specs.Level.{sheet_level}
 use Rattle.prta_certfile.specs.declared.level.CertLevel.{CertLevel}
 use Rattle.prta_certfile.specs.declared.level.CertLevel.TheVariants.{Steps}
 use Rattle.prta_certfile.specs.Steps.{cells_by_steps}
+use Rattle.prta_certificate.specs.Candidates.{image_of_point, lowered, verdict_of}
 use Rattle.prta_certificate.specs.Levels.{cert_level, IsFoundLevel, SteadyHold}
+use Rattle.prta_certificate.specs.declared.verdict.Verdict.{Verdict}
+use Rattle.prta_certificate.specs.declared.verdict.Verdict.TheVariants.{Turn, Slack, OverFull, BeyondCap}
+use Rattle.prta_tail.specs.Walk.{first_ratio}
+use Rattle.prta_tail.specs.Laws.{TailsHold}
 use Rattle.prta_report.specs.Analysis.{bounds_in, sum_in}
 use Rattle.prta_report.specs.Certificates.{stated_at}
 
@@ -39,3 +44,14 @@ StatedHold sheet i level = ⊤
 -- those of each task do
 abbrev pub NumbersHold : Sheet → List CertLevel → Type 0
 NumbersHold sheet levels = (i : ℕ) → i < length sheet.tasks → StatedHold sheet i (stated_at levels i)
+
+-- the steady numbers of a level's rows hold in every hyperperiod: those of the list that is found, or those of the tail
+abbrev pub LevelHolds : Sheet → ℕ → Verdict → Type 0
+LevelHolds sheet i (Turn j) = SteadyHold sheet i (image_of_point sheet.tasks (sheet_level i) sheet.settings.cap j)
+LevelHolds sheet i (Slack s) = SteadyHold sheet i (lowered sheet.tasks (sheet_level i) sheet.settings.cap sheet.settings.turns s)
+LevelHolds sheet i (OverFull work total) = IfSome (first_ratio sheet.tasks (sheet_level i)) (TailsHold sheet i)
+LevelHolds sheet i (BeyondCap most) = ⊤
+
+-- those of each level do
+abbrev pub LevelsHold : Sheet → Type 0
+LevelsHold sheet = (i : ℕ) → i < length sheet.tasks → LevelHolds sheet i (verdict_of sheet.tasks (sheet_level i) sheet.settings.cap sheet.settings.turns)

@@ -7,6 +7,8 @@ use Rattle.prta_backlog.specs.Room.{room_for}
 use Rattle.prta_report.specs.Text.{count_line}
 use Rattle.prta_report.specs.Analysis.{analyse_rows, csv_rows, ledger_rows, analyse_text, csv_text, ledger_text}
 use Rattle.prta_report.specs.Certificates.{certify_rows, certify_text}
+use Rattle.prta_writer.specs.Curves.{kind_for, is_same}
+use Rattle.prta_writer.specs.declared.curves.Kind.{Kind}
 use Rattle.prta_writer.specs.declared.report.What.{What}
 use Rattle.prta_writer.specs.declared.report.What.TheVariants.{Analyse, AnalyseCsv, Ledger, Certify}
 
@@ -35,9 +37,10 @@ report_text AnalyseCsv = csv_text
 report_text Ledger = ledger_text
 report_text Certify = certify_text
 
--- the room of a report: the cells of a list of chances, the entries of a ledger, and the jobs of one task
+-- the room of a report: the cells of a list of chances and how it is kept, the entries of a ledger, and the jobs of one task
 pub record RoomParts : Type 0 where
   pub cap : ℕ
+  pub kind : Kind
   pub entries : ℕ
   pub jobs : ℕ
 
@@ -47,4 +50,4 @@ most_jobs sheet = largest (length sheet.tasks) (job_count sheet)
 
 -- a room is enough for the reports of a sheet
 abbrev pub fits : Sheet → RoomParts → Bool
-fits sheet room = nat_eq room.cap sheet.settings.cap && (nat_le (room_for sheet) room.entries && nat_le (most_jobs sheet) room.jobs)
+fits sheet room = nat_eq room.cap sheet.settings.cap && (is_same room.kind (kind_for sheet) && (nat_le (room_for sheet) room.entries && nat_le (most_jobs sheet) room.jobs))

@@ -8,10 +8,12 @@ ghost use Rattle.prta_outside.specs.Sink.{HasRisen};
 ghost use Rattle.prta_backlog.specs.Room.{room_for};
 ghost use Rattle.prta_response.specs.Fitting.{FitsCap};
 ghost use Rattle.prta_report.specs.Analysis.{bench_text, is_certified};
+ghost use Rattle.prta_writer.specs.Curves.{kind_of, FitsCurves};
 ghost use Rattle.prta_writer.specs.Report.{fits, most_jobs};
 ghost use Rattle.prta_writer.specs.Amounts.{amounts_of, AreSmall};
 ghost use Rattle.prta_writer.specs.Writing.{Took, TookPart};
 
+use crate::curves::Curves;
 use crate::output::put_all;
 use crate::room::{Desk, Room};
 use crate::rows::analyse;
@@ -32,8 +34,8 @@ pub fn write_bench<O: Sink>(room: &mut Room, sheet: &Sheet, out: &mut O) -> Resu
     ensures part { OnErr result (TookPart (O.taken out.old) (O.taken out.new) (bench_text sheet.now)) }
     ensures room { room.new ≡ room.old }
 {
-    let Room { bench, desk, .. } = room;
-    let amounts = amounts_of(bench, desk, sheet);
+    let Room { curves, desk, .. } = room;
+    let amounts = amounts_by(curves, desk, sheet);
     desk.page.clear();
     push_amounts(&mut desk.page, sheet, amounts);
     put_all(out, desk.page.bytes())?;
@@ -51,6 +53,24 @@ pub(crate) struct Amounts {
     pub lower: u128,
     /// The sum of the upper numbers.
     pub upper: u128,
+}
+
+// The amounts of all tasks, by the curves.
+fn amounts_by(curves: &mut Curves, desk: &mut Desk, sheet: &Sheet) -> Amounts
+    requires fits { FitsCurves sheet.now.settings.cap curves.old }
+    requires entries { room_for sheet.now ≤ desk.old.ledger.room }
+    requires jobs { most_jobs sheet.now ≤ vec_len desk.old.bounds }
+    ensures amounts { result ≡ amounts_of sheet.now (length sheet.now.tasks) }
+    ensures page { desk.new.page ≡ desk.old.page }
+    ensures room { desk.old.ledger.room ≤ desk.new.ledger.room }
+    ensures bounds { vec_len desk.new.bounds ≡ vec_len desk.old.bounds }
+    ensures fits { FitsCurves sheet.now.settings.cap curves.new }
+    ensures kind { kind_of curves.new ≡ kind_of curves.old }
+{
+    match curves {
+        Curves::Cells(bench) => amounts_of(bench, desk, sheet),
+        Curves::Steps(bench) => amounts_of(bench, desk, sheet),
+    }
 }
 
 // The amounts of all tasks.

@@ -4,8 +4,9 @@ ghost use Rattle.std.specs.Prelude.{◌≡◌, ◌+◌, ◌*◌, ◌≤◌, ◌+
 ghost use Rattle.prta_audsley.specs.Verdict.{verdict, Says, VerdictHolds};
 ghost use Rattle.prta_report.specs.Assignment.{verdict_line, assign_text};
 ghost use Rattle.prta_writer.specs.Assigning.{is_found};
+ghost use Rattle.prta_writer.specs.Curves.{FitsCurves};
 
-use crate::bench::bench_for;
+use crate::curves::{Curves, curves_for};
 use prta_audsley::{Assigned, assign, verdicts_hold};
 use prta_mass::NoMemory;
 use prta_report::{LINE, Page, order_line, set_line};
@@ -22,13 +23,24 @@ pub fn assignment(alloc: Global, sheet: &Sheet) -> Result<(Page, bool), NoMemory
     verdicts_hold();
     let _tasks = sheet.tasks();
     let mut page = Page::with_room(alloc, 2 * LINE)?;
-    let mut bench = bench_for(alloc, sheet)?;
-    let assigned = assign(alloc, &mut bench, sheet)?;
+    let assigned = assigned_by(alloc, curves_for(alloc, sheet)?, sheet)?;
     page.push(b"prta assign 1\n");
     push_verdict(&mut page, sheet, &assigned);
     page.push(b"end\n");
     let found = is_order(&assigned);
     Ok((page, found))
+}
+
+// The verdict, by the curves.
+fn assigned_by(alloc: Global, curves: Curves, sheet: &Sheet) -> Result<Assigned, NoMemory>
+    requires { FitsCurves sheet.now.settings.cap curves }
+    ensures verdict { IfOk result (λ assigned. assigned ≡ verdict sheet.now) }
+    ensures says { IfOk result (Says sheet.now) }
+{
+    match curves {
+        Curves::Cells(mut bench) => assign(alloc, &mut bench, sheet),
+        Curves::Steps(mut bench) => assign(alloc, &mut bench, sheet),
+    }
 }
 
 // The line of the verdict.

@@ -6,11 +6,13 @@ ghost use Rattle.prta_outside.specs.Sink.{HasRisen};
 ghost use Rattle.prta_backlog.specs.Room.{room_for};
 ghost use Rattle.prta_response.specs.Fitting.{FitsCap};
 ghost use Rattle.prta_report.specs.Analysis.{check_text, failing_job};
+ghost use Rattle.prta_writer.specs.Curves.{kind_of, FitsCurves};
 ghost use Rattle.prta_writer.specs.Report.{fits, most_jobs};
 ghost use Rattle.prta_writer.specs.Checking.{failing, found_job};
 ghost use Rattle.prta_writer.specs.Meaning.{ChancesPass};
 ghost use Rattle.prta_writer.specs.Writing.{Took, TookPart};
 
+use crate::curves::Curves;
 use crate::meaning::what_numbers_mean;
 use crate::output::put_all;
 use crate::room::{Desk, Room};
@@ -35,8 +37,8 @@ pub fn write_check<O: Sink>(room: &mut Room, sheet: &Sheet, out: &mut O) -> Resu
     ensures room { room.new ≡ room.old }
 {
     what_numbers_mean(sheet);
-    let Room { bench, desk, .. } = room;
-    let found = first_failing(bench, desk, sheet);
+    let Room { curves, desk, .. } = room;
+    let found = first_by(curves, desk, sheet);
     desk.page.clear();
     push_verdict(&mut desk.page, sheet, found);
     put_all(out, desk.page.bytes())?;
@@ -49,6 +51,25 @@ pub(crate) struct Failing {
     pub task: usize,
     pub number: u32,
     pub upper: u64,
+}
+
+// The first such job, by the curves.
+fn first_by(curves: &mut Curves, desk: &mut Desk, sheet: &Sheet) -> Option<Failing>
+    requires fits { FitsCurves sheet.now.settings.cap curves.old }
+    requires entries { room_for sheet.now ≤ desk.old.ledger.room }
+    requires jobs { most_jobs sheet.now ≤ vec_len desk.old.bounds }
+    ensures first { option_map (found_job sheet.now) result ≡ failing sheet.now }
+    ensures on_sheet { IfSome result (λ found. found.task < length sheet.now.tasks) }
+    ensures page { desk.new.page ≡ desk.old.page }
+    ensures room { desk.old.ledger.room ≤ desk.new.ledger.room }
+    ensures bounds { vec_len desk.new.bounds ≡ vec_len desk.old.bounds }
+    ensures fits { FitsCurves sheet.now.settings.cap curves.new }
+    ensures kind { kind_of curves.new ≡ kind_of curves.old }
+{
+    match curves {
+        Curves::Cells(bench) => first_failing(bench, desk, sheet),
+        Curves::Steps(bench) => first_failing(bench, desk, sheet),
+    }
 }
 
 // The first such job, by task in sheet order and then by number.

@@ -3,14 +3,16 @@
 
 mod amounts;
 mod assigning;
-mod bench;
 mod checking;
+mod curves;
 mod levels;
 mod meaning;
 mod output;
 mod report;
 mod room;
 mod rows;
+mod steadiness;
+mod tail;
 #[cfg(test)]
 mod tests;
 mod trace;
@@ -19,8 +21,10 @@ mod verifying;
 pub use amounts::write_bench;
 pub use assigning::assignment;
 pub use checking::write_check;
+pub use curves::{FEW_POINTS, Kind, stated_limit};
 pub use output::put_all;
 pub use report::{What, write_report};
 pub use room::Room;
+pub use tail::write_tail;
 pub use trace::trace_page;
 pub use verifying::write_verify;

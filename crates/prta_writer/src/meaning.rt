@@ -3,16 +3,17 @@
 ghost use Rattle.std.specs.Prelude.{◌≡◌, None, length, All};
 ghost use Rattle.prta_report.specs.Analysis.{failing_job};
 ghost use Rattle.prta_report.specs.Certificates.{broken_task};
-ghost use Rattle.prta_writer.specs.Meaning.{AreAround, AreClose, ChancesPass, AreFound, NumbersHold};
+ghost use Rattle.prta_writer.specs.Meaning.{AreAround, AreClose, ChancesPass, AreFound, LevelsHold, NumbersHold};
 ghost use Rattle.prta_certfile.specs.Laws.{AreLevels};
 
 use prta_certfile::{Certificate, steps_are_lists};
-use prta_certificate::{levels_are_found, steady_numbers_hold, test_certifies};
+use prta_certificate::{levels_are_found, steady_numbers_hold, test_certifies, verdicts_say};
 use prta_dual::gap_is_noted;
 use prta_jobs::jobs_are_before;
 use prta_report::own_jobs_in_turn;
 use prta_response::numbers_are_around;
 use prta_sheet::Sheet;
+use prta_tail::{backlogs_have_tails, tail_numbers_hold};
 
 /// Each analysed job's two numbers are around its exact chance, and no further apart than its entries add up to; and where
 /// every upper number passes, every exact chance does.
@@ -45,4 +46,15 @@ pub fn what_levels_mean(sheet: &Sheet, certificate: &Certificate)
     steps_are_lists();
     test_certifies();
     steady_numbers_hold();
+}
+
+/// The steady numbers of each level, for the list that is found for it or for its tail, hold in every hyperperiod.
+pub fn what_tails_mean(sheet: &Sheet)
+    ensures { LevelsHold sheet.now }
+{
+    let _tasks = sheet.tasks();
+    verdicts_say();
+    steady_numbers_hold();
+    backlogs_have_tails();
+    tail_numbers_hold();
 }

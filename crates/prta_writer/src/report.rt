@@ -10,6 +10,7 @@ ghost use Rattle.prta_writer.specs.Report.{fits, head, rows, last_line, report_t
 ghost use Rattle.prta_writer.specs.Meaning.{AreAround, AreClose, AreFound};
 ghost use Rattle.prta_writer.specs.Writing.{Took, TookPart, TookAllBut};
 
+use crate::curves::Curves;
 use crate::levels::put_level;
 use crate::meaning::{what_levels_are, what_numbers_mean};
 use crate::output::{make_room, put_all};
@@ -53,7 +54,35 @@ pub fn write_report<O: Sink>(
 {
     what_numbers_mean(sheet);
     what_levels_are(sheet);
-    let Room { bench, desk, .. } = room;
+    let Room { curves, desk, .. } = room;
+    match curves {
+        Curves::Cells(bench) => put_report(bench, desk, sheet, what, out),
+        Curves::Steps(bench) => put_report(bench, desk, sheet, what, out),
+    }
+}
+
+/// Writes it over one kind of curve.
+pub(crate) fn put_report<C: Curve, K: Kernel, O: Sink>(
+    bench: &mut Bench<C, K>,
+    desk: &mut Desk,
+    sheet: &Sheet,
+    what: What,
+    out: &mut O,
+) -> Result<(), SinkFault>
+    requires fits { FitsCap sheet.now.settings.cap (C.cells bench.old.main) (C.cells bench.old.spare) (C.cells bench.old.kept)
+        (vec_len bench.old.cells) (vec_len bench.old.tail) (vec_len bench.old.room) }
+    requires entries { room_for sheet.now ≤ desk.old.ledger.room }
+    requires jobs { most_jobs sheet.now ≤ vec_len desk.old.bounds }
+    requires page { 2 * LINE ≤ length desk.old.page.written + desk.old.page.spare }
+    ensures text { OnOk result (Took (O.taken out.old) (O.taken out.new) (report_text what sheet.now)) }
+    ensures fault { OnErr result (HasRisen (O.faults out.old) (O.faults out.new)) }
+    ensures part { OnErr result (TookPart (O.taken out.old) (O.taken out.new) (report_text what sheet.now)) }
+    ensures fits { FitsCap sheet.now.settings.cap (C.cells bench.new.main) (C.cells bench.new.spare) (C.cells bench.new.kept)
+        (vec_len bench.new.cells) (vec_len bench.new.tail) (vec_len bench.new.room) }
+    ensures entries { desk.old.ledger.room ≤ desk.new.ledger.room }
+    ensures jobs { vec_len desk.new.bounds ≡ vec_len desk.old.bounds }
+    ensures page { length desk.new.page.written + desk.new.page.spare ≡ length desk.old.page.written + desk.old.page.spare }
+{
     desk.page.clear();
     push_head(&mut desk.page, sheet, what);
     put_rows(bench, desk, sheet, what, out)?;

@@ -3,10 +3,9 @@
 ghost use Rattle.std.specs.Prelude.{◌≡◌, ◌≤◌, true, IfOk};
 ghost use Rattle.prta_writer.specs.Report.{fits, most_jobs};
 
-use crate::bench::bench_for;
-use prta_backlog::{Bench, room_for};
-use prta_convplain::Plain;
-use prta_dist::{Curve, Dense};
+use crate::curves::{Curves, Kind, curves_for, kind_for};
+use prta_backlog::room_for;
+use prta_dist::Curve;
 use prta_dual::Bounds;
 use prta_ledger::Ledger;
 use prta_mass::NoMemory;
@@ -19,10 +18,10 @@ use std::marker::Model;
 const PAGE: usize = 65_536;
 
 /// Room for the reports of a sheet: once it is made, a whole analysis takes no memory. It is seen as the cells of a list of
-/// chances, the entries of a ledger, and the jobs of one task.
+/// chances and how that is kept, the entries of a ledger, and the jobs of one task.
 #[derive(Drop)]
 pub struct Room {
-    pub(crate) bench: Bench<Dense<Plain>, Plain>,
+    pub(crate) curves: Curves,
     pub(crate) desk: Desk,
     // The steady number of each job of a task in one hyperperiod.
     pub(crate) steady: Vec<u64>,
@@ -43,15 +42,15 @@ pub struct Desk {
 
 impl Model for Room {
     ghost use Rattle.std.specs.Prelude.{◌≡◌, ◌+◌, ◌*◌, ◌≤◌, length, vec_len};
-    ghost use Rattle.prta_response.specs.Fitting.{FitsCap};
+    ghost use Rattle.prta_writer.specs.Curves.{cap_of, kind_of, FitsCurves};
     ghost use Rattle.prta_report.specs.declared.page.TheConstants.{LINE};
     ghost use Rattle.prta_writer.specs.Report.{RoomParts};
 
     ghost Value = { RoomParts };
 
-    ghost view = { λ r. record { cap = length r.bench.main; entries = r.entries; jobs = vec_len r.desk.bounds } };
+    ghost view = { λ r. record { cap = cap_of r.curves; kind = kind_of r.curves; entries = r.entries; jobs = vec_len r.desk.bounds } };
 
-    ghost invariant = { λ r. FitsCap (length r.bench.main) r.bench.main r.bench.spare r.bench.kept (vec_len r.bench.cells) (vec_len r.bench.tail) (vec_len r.bench.room)
+    ghost invariant = { λ r. FitsCurves (cap_of r.curves) r.curves
         × (r.entries ≤ r.desk.ledger.room)
         × (vec_len r.steady ≡ vec_len r.desk.bounds)
         × (3 * LINE ≤ length r.desk.page.written + r.desk.page.spare) };
@@ -62,7 +61,7 @@ impl Room {
     pub fn new(alloc: Global, sheet: &Sheet) -> Result<Room, NoMemory>
         ensures { IfOk result (λ room. fits sheet.now room ≡ true) }
     {
-        let bench = bench_for(alloc, sheet)?;
+        let curves = curves_for(alloc, sheet)?;
         let entries = room_for(sheet);
         let ledger = Ledger::with_room(alloc, entries)?;
         let none = Bounds { lower: 0, upper: 0 };
@@ -75,7 +74,7 @@ impl Room {
             page,
         };
         Ok(Room {
-            bench,
+            curves,
             desk,
             steady,
             entries,
@@ -86,14 +85,15 @@ impl Room {
     pub fn fits(&self, sheet: &Sheet) -> bool
         ensures { result ≡ fits sheet.now self.now }
     {
-        self.bench.main.cap() == sheet.cap()
+        self.curves.cap() == sheet.cap()
+            && self.curves.kind() == kind_for(sheet)
             && room_for(sheet) <= self.entries
             && most_jobs(sheet) <= self.desk.bounds.len()
     }
 }
 
 // The greatest number of analysed jobs of a task.
-fn most_jobs(sheet: &Sheet) -> usize
+pub(crate) fn most_jobs(sheet: &Sheet) -> usize
     ensures { result ≡ most_jobs sheet.now }
 {
     let mut most = 0;

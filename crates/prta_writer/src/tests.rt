@@ -5,6 +5,9 @@ ghost use Rattle.std.specs.Prelude.{◌≡◌, ◌<◌, true, All};
 ghost use Rattle.prta_certfile.specs.Laws.{AreLevels};
 ghost use Rattle.prta_writer.specs.Report.{fits};
 
+mod kernels;
+mod steps;
+
 use super::*;
 use prta_certfile::{Certificate, read_cert};
 use prta_outside::MemorySink;

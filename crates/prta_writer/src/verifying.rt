@@ -1,28 +1,27 @@
 //! The text of `verify`: what the lists of a certificate are worth.
 
-ghost use Rattle.std.specs.Prelude.{◌≡◌, ◌+◌, ◌≤◌, ◌<◌, ◌++◌, true, None, is_none, option_map, IfOk, IfSome, OnOk, OnErr, length, vec_len, flat_map, All};
-ghost use Rattle.prta_mass.specs.Unit.{unit};
+ghost use Rattle.std.specs.Prelude.{◌≡◌, ◌+◌, ◌*◌, ◌≤◌, ◌<◌, ◌++◌, true, None, is_none, option_map, IfOk, IfSome, OnOk, OnErr, length, vec_len, flat_map};
 ghost use Rattle.prta_sheet.specs.Sheet.{sheet_order};
-ghost use Rattle.prta_sheet.specs.Counts.{job_count};
 ghost use Rattle.prta_outside.specs.Sink.{HasRisen};
 ghost use Rattle.prta_response.specs.Fitting.{FitsCap};
 ghost use Rattle.prta_certfile.specs.Laws.{AreLevels, IsLevel};
-ghost use Rattle.prta_certfile.specs.Steps.{cells_by_steps, AreBelow};
-ghost use Rattle.prta_report.specs.Certificates.{stated_at, broken_in, broken_task, jobs_in_turn, steady_rows, level_rows, verify_rows, steady_text, verify_text};
+ghost use Rattle.prta_report.specs.Certificates.{stated_at, broken_in, broken_task, level_rows, verify_rows, steady_text, verify_text};
 ghost use Rattle.prta_writer.specs.Report.{fits, most_jobs};
 ghost use Rattle.prta_writer.specs.Meaning.{NumbersHold};
-ghost use Rattle.prta_writer.specs.Verifying.{task_of, IsBrokenAt, steady_lines};
+ghost use Rattle.prta_writer.specs.Verifying.{task_of, IsBrokenAt};
 ghost use Rattle.prta_writer.specs.Writing.{Took, TookPart, TookAllBut};
 
+use crate::curves::Curves;
 use crate::meaning::what_levels_mean;
 use crate::output::{make_room, put_all};
 use crate::room::Room;
+use crate::steadiness::put_certified;
 use prta_backlog::Bench;
-use prta_certfile::{CertLevel, Certificate, StepList, steps_are_lists};
-use prta_certificate::{check, load_steps, steady};
+use prta_certfile::{CertLevel, Certificate, steps_are_lists};
+use prta_certificate::{check, load_steps};
 use prta_dist::{Break, Curve, Kernel};
 use prta_outside::{Sink, SinkFault};
-use prta_report::{LINE, Page, broken_line, certified_line, steady_line, uncertified_line};
+use prta_report::{LINE, Page, broken_line, uncertified_line};
 use prta_sheet::Sheet;
 
 /// Writes what a certificate is worth for a sheet: the steady numbers of each level with a list, where every list certifies
@@ -44,21 +43,50 @@ pub fn write_verify<O: Sink>(
     ensures room { room.new ≡ room.old }
 {
     what_levels_mean(sheet, certificate);
-    let levels = certificate.levels();
     let Room {
-        bench,
+        curves,
         desk,
         steady,
         ..
     } = room;
-    desk.page.clear();
-    desk.page.push(b"prta verify 1\n");
+    match curves {
+        Curves::Cells(bench) => put_verify(bench, &mut desk.page, steady, sheet, certificate, out),
+        Curves::Steps(bench) => put_verify(bench, &mut desk.page, steady, sheet, certificate, out),
+    }
+}
+
+// Writes it over one kind of curve.
+fn put_verify<C: Curve, K: Kernel, O: Sink>(
+    bench: &mut Bench<C, K>,
+    page: &mut Page,
+    places: &mut [u64],
+    sheet: &Sheet,
+    certificate: &Certificate,
+    out: &mut O,
+) -> Result<bool, SinkFault>
+    requires fits { FitsCap sheet.now.settings.cap (C.cells bench.old.main) (C.cells bench.old.spare) (C.cells bench.old.kept)
+        (vec_len bench.old.cells) (vec_len bench.old.tail) (vec_len bench.old.room) }
+    requires places { most_jobs sheet.now ≤ length places.old }
+    requires stated { AreLevels sheet.now.tasks sheet.now.settings.cap certificate.now }
+    requires page { 2 * LINE ≤ length page.old.written + page.old.spare }
+    ensures text { OnOk result (Took (O.taken out.old) (O.taken out.new) (verify_text sheet.now certificate.now)) }
+    ensures yes { IfOk result (λ yes. yes ≡ is_none (broken_task sheet.now certificate.now)) }
+    ensures fault { OnErr result (HasRisen (O.faults out.old) (O.faults out.new)) }
+    ensures part { OnErr result (TookPart (O.taken out.old) (O.taken out.new) (verify_text sheet.now certificate.now)) }
+    ensures fits { FitsCap sheet.now.settings.cap (C.cells bench.new.main) (C.cells bench.new.spare) (C.cells bench.new.kept)
+        (vec_len bench.new.cells) (vec_len bench.new.tail) (vec_len bench.new.room) }
+    ensures places { length places.new ≡ length places.old }
+    ensures size { length page.new.written + page.new.spare ≡ length page.old.written + page.old.spare }
+{
+    let levels = certificate.levels();
+    page.clear();
+    page.push(b"prta verify 1\n");
     if let Some(broken) = first_broken(bench, sheet, levels) {
-        broken_line(&mut desk.page, sheet, broken.task, broken.at);
-        put_all(out, desk.page.bytes())?;
+        broken_line(page, sheet, broken.task, broken.at);
+        put_all(out, page.bytes())?;
         return Ok(false);
     }
-    put_levels(bench, &mut desk.page, steady, sheet, levels, out)?;
+    put_levels(bench, page, places, sheet, levels, out)?;
     Ok(true)
 }
 
@@ -201,83 +229,15 @@ fn put_level<C: Curve, K: Kernel, O: Sink>(
         (vec_len bench.new.cells) (vec_len bench.new.tail) (vec_len bench.new.room) }
     ensures places { length places.new ≡ length places.old }
 {
-    make_room(page, out)?;
     match level {
         CertLevel::Steps(steps) => {
-            certified_line(page, sheet, task);
-            put_steady(bench, page, places, sheet, task, steps, out)
+            load_steps(bench, steps);
+            put_certified(bench, page, places, sheet, task, out)
         }
         CertLevel::OverFull { .. } | CertLevel::BeyondCap { .. } => {
+            make_room(page, out)?;
             uncertified_line(page, sheet, task);
             Ok(())
         }
     }
-}
-
-// The steady numbers of a task's jobs, for the list with these steps.
-fn put_steady<C: Curve, K: Kernel, O: Sink>(
-    bench: &mut Bench<C, K>,
-    page: &mut Page,
-    places: &mut [u64],
-    sheet: &Sheet,
-    task: usize,
-    steps: &StepList,
-    out: &mut O,
-) -> Result<(), SinkFault>
-    requires task { task < length sheet.now.tasks }
-    requires below { AreBelow sheet.now.settings.cap steps.now }
-    requires fits { FitsCap sheet.now.settings.cap (C.cells bench.old.main) (C.cells bench.old.spare) (C.cells bench.old.kept)
-        (vec_len bench.old.cells) (vec_len bench.old.tail) (vec_len bench.old.room) }
-    requires places { most_jobs sheet.now ≤ length places.old }
-    requires page { LINE ≤ length page.old.written + page.old.spare }
-    ensures took { OnOk result (TookAllBut (O.taken out.old) (O.taken out.new) (page.old.written ++ steady_rows sheet.now task (cells_by_steps sheet.now.settings.cap steps.now)) page.new.written) }
-    ensures fault { OnErr result (HasRisen (O.faults out.old) (O.faults out.new)) }
-    ensures part { OnErr result (TookPart (O.taken out.old) (O.taken out.new) (page.old.written ++ steady_rows sheet.now task (cells_by_steps sheet.now.settings.cap steps.now))) }
-    ensures never_falls { O.faults out.old ≤ O.faults out.new }
-    ensures size { length page.new.written + page.new.spare ≡ length page.old.written + page.old.spare }
-    ensures fits { FitsCap sheet.now.settings.cap (C.cells bench.new.main) (C.cells bench.new.spare) (C.cells bench.new.kept)
-        (vec_len bench.new.cells) (vec_len bench.new.tail) (vec_len bench.new.room) }
-    ensures places { length places.new ≡ length places.old }
-{
-    load_steps(bench, steps);
-    let found = &mut places[..jobs_in_turn(sheet, task)];
-    steady(bench, sheet, task, found);
-    put_numbers(page, sheet, task, found, out)
-}
-
-// How many jobs of a task a hyperperiod has.
-fn jobs_in_turn(sheet: &Sheet, task: usize) -> usize
-    requires { task < length sheet.now.tasks }
-    ensures count { result ≡ jobs_in_turn sheet.now task }
-    ensures few { result ≤ job_count sheet.now task }
-    ensures most { result ≤ most_jobs sheet.now }
-{
-    let tasks = sheet.tasks();
-    (sheet.hyperperiod() / tasks[task].period() as u64) as usize
-}
-
-// A line for each of them.
-fn put_numbers<O: Sink>(
-    page: &mut Page,
-    sheet: &Sheet,
-    task: usize,
-    found: &[u64],
-    out: &mut O,
-) -> Result<(), SinkFault>
-    requires task { task < length sheet.now.tasks }
-    requires few { length found.now ≤ job_count sheet.now task }
-    requires low { All (λ upper. upper ≤ unit) found.now }
-    requires page { LINE ≤ length page.old.written + page.old.spare }
-    ensures took { OnOk result (TookAllBut (O.taken out.old) (O.taken out.new) (page.old.written ++ steady_lines sheet.now task found.now) page.new.written) }
-    ensures fault { OnErr result (HasRisen (O.faults out.old) (O.faults out.new)) }
-    ensures part { OnErr result (TookPart (O.taken out.old) (O.taken out.new) (page.old.written ++ steady_lines sheet.now task found.now)) }
-    ensures never_falls { O.faults out.old ≤ O.faults out.new }
-    ensures size { length page.new.written + page.new.spare ≡ length page.old.written + page.old.spare }
-{
-    let _tasks = sheet.tasks();
-    for number in 0..found.len() {
-        make_room(page, out)?;
-        steady_line(page, sheet, task, number as u32, found[number]);
-    }
-    Ok(())
 }

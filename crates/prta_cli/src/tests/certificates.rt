@@ -28,7 +28,7 @@ const CYCLE: &str =
     "format = 2\n[[task]]\nname = \"A\"\nperiod = 5\ndeadline = 5\ncycle = [[[3, 1], [6, 1]], [[2, 1]]]\n";
 
 // A task whose one job is longer than the cap.
-const LONG: &str =
+pub const LONG: &str =
     "format = 1\ncap = 6\n[[task]]\nname = \"A\"\nperiod = 10\ndeadline = 4\ntimes = [[7, 1]]\n";
 
 // A sheet, and the text of `certify`.

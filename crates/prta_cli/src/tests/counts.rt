@@ -29,7 +29,7 @@ const MOST: &str = "task,time,weight\n\
     A,12,1\nA,13,1\nA,14,1\nA,15,1\nA,16,1\nA,17,1\nA,18,1\nA,19,1\nA,20,1\nA,21,1\nA,22,1\n\
     A,23,1\nA,24,1\nA,25,1\nA,26,1\nA,27,1\nA,28,1\nA,29,1\nA,30,1\nA,31,1\nA,32,1\n";
 
-const ONE_MORE: &str = "task,time,weight\n\
+pub const ONE_MORE: &str = "task,time,weight\n\
     A,1,1\nA,2,1\nA,3,1\nA,4,1\nA,5,1\nA,6,1\nA,7,1\nA,8,1\nA,9,1\nA,10,1\nA,11,1\n\
     A,12,1\nA,13,1\nA,14,1\nA,15,1\nA,16,1\nA,17,1\nA,18,1\nA,19,1\nA,20,1\nA,21,1\nA,22,1\n\
     A,23,1\nA,24,1\nA,25,1\nA,26,1\nA,27,1\nA,28,1\nA,29,1\nA,30,1\nA,31,1\nA,32,1\nA,33,1\n";

@@ -54,7 +54,7 @@ pub const THIRDS_LEDGER: &str = "prta ledger 1\n\
     end\n";
 
 // A sheet, what `analyse` and `ledger` print, and how `check` ends and what it prints.
-pub static REPORTS: [(Text, &str, &str, Status, &str); 26] = [
+pub static REPORTS: [(Text, &str, &str, Status, &str); 27] = [
     // One task, without a remainder and with one.
     (
         AS_IT_IS,
@@ -443,6 +443,28 @@ pub static REPORTS: [(Text, &str, &str, Status, &str); 26] = [
          entry down resample A 1 2 576460752303423488\n\
          gap A 0 lower 576460752303423488 upper 576460752303423488 sum 0\n\
          gap A 1 lower 576460752303423488 upper 864691128455135232 sum 1152921504606846976\n\
+         end\n",
+        Status::No,
+        HALF_VERDICT,
+    ),
+    // Re-sampled at so few places that the lists are kept by their steps.
+    (
+        Text::Edited(
+            LATE,
+            "hyperperiods = 3",
+            "hyperperiods = 2\nsupport = { fine = 0, step = 8 }",
+        ),
+        "prta analyse 1\n\
+         hyperperiod 4 jobs 2\n\
+         job A 0 release 0 deadline 4 lower 576460752303423488 0.500000000000 upper 576460752303423488 0.500000000000\n\
+         job A 1 release 4 deadline 8 lower 576460752303423488 0.500000000000 upper 1152921504606846976 1.000000000000\n\
+         end\n",
+        "prta ledger 1\n\
+         hyperperiod 4 jobs 2\n\
+         entry up resample A 1 2 1152921504606846976\n\
+         entry down resample A 1 2 1152921504606846976\n\
+         gap A 0 lower 576460752303423488 upper 576460752303423488 sum 0\n\
+         gap A 1 lower 576460752303423488 upper 1152921504606846976 sum 2305843009213693952\n\
          end\n",
         Status::No,
         HALF_VERDICT,

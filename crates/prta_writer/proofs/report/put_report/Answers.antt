@@ -1,14 +1,14 @@
-use Rattle.std.proofs.Common.{rules, ◌≡◌, ℕ, ◌++◌, List, flat_map, ap, ◌∙◌, subst}
+use Rattle.std.proofs.Common.{rules, ◌≡◌, ℕ, ◌+◌, ◌++◌, length, List, flat_map, ap, ◌∙◌, subst, arith}
 use Rattle.prta_sheet.specs.Sheet.{Sheet, sheet_order}
 use Rattle.prta_report.specs.Page.{PageParts}
 use Rattle.prta_writer.specs.Report.{head, rows, last_line, report_text}
 use Rattle.prta_writer.specs.Writing.{Took, TookPart}
 use Rattle.prta_writer.proofs.Taking.{more_put, longer, put_whole, part_then, part_of_more}
 use Rattle.prta_writer.proofs.RowsInTurn.{cut_short}
-use Rattle.prta_writer.proofs.Parts.{in_parts}
-use Rattle.prta_writer.proofs.report.write_report.Given as given
-use Rattle.prta_writer.proofs.report.write_report.Goals as goal
-use Rattle.prta_writer.proofs.report.write_report.Goals.{After-make_room}
+use Rattle.prta_writer.proofs.Parts.{in_parts, size_pushed}
+use Rattle.prta_writer.proofs.report.put_report.Given as given
+use Rattle.prta_writer.proofs.report.put_report.Goals as goal
+use Rattle.prta_writer.proofs.report.put_report.Goals.{After-make_room}
 
 -- what was written is the text but for its end
 text_is : (g : given.Over) (c : After-make_room g) →
@@ -66,3 +66,15 @@ returns-clause-text g c =
     let went = more_put a b d _ c.put_rows.new.desk.page.written page c.in_ok-put_rows.ensures.took c.in_ok-make_room.ensures.took in
     subst (λ t. Took a e t) (text_is g (goal.at.returns-clause-text g c).After-make_room)
     (put_whole a d e _ (page ++ last) (longer a d _ page last went) (subst (λ t. Took d e t) bytes c.in_ok-put_all.ensures.whole))
+
+pub returns-in_err-put_all-clause-page : goal.returns-in_err-put_all-clause-page
+returns-in_err-put_all-clause-page g c =
+    size_pushed c.push.new.self c.make_room.new.page c.last_line.result.now c.push.ensures (omega (arith, c.last_line.ensures.short, c.in_ok-make_room.ensures.room))
+    ∙ c.in_ok-make_room.ensures.size ∙ c.in_ok-put_rows.ensures.page ∙ c.push_head.ensures.size
+    ∙ omega (arith, ap (λ (p : PageParts). length p.written + p.spare) c.clear.ensures)
+
+pub returns-clause-page : goal.returns-clause-page
+returns-clause-page g c =
+    size_pushed c.push.new.self c.make_room.new.page c.last_line.result.now c.push.ensures (omega (arith, c.last_line.ensures.short, c.in_ok-make_room.ensures.room))
+    ∙ c.in_ok-make_room.ensures.size ∙ c.in_ok-put_rows.ensures.page ∙ c.push_head.ensures.size
+    ∙ omega (arith, ap (λ (p : PageParts). length p.written + p.spare) c.clear.ensures)

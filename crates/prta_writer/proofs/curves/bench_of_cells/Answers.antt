@@ -1,7 +1,7 @@
 -- Each curve has the cap's cells.
 use Rattle.std.proofs.Common.{◌≡◌, length, ap, ◌∙◌}
 use Rattle.prta_backlog.proofs.Chances.{size_point}
-use Rattle.prta_writer.proofs.bench.bench_for.Goals as goal
+use Rattle.prta_writer.proofs.curves.bench_of_cells.Goals as goal
 
 pub returns : goal.returns
 returns c =

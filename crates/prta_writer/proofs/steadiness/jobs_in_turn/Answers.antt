@@ -3,9 +3,9 @@ use Rattle.prta_sheet.specs.Sheet.{Task}
 use Rattle.prta_report.specs.Certificates.{jobs_in_turn}
 use Rattle.prta_writer.specs.Report.{most_jobs}
 use Rattle.prta_writer.proofs.Checks.{count_within, task_read}
-use Rattle.prta_writer.proofs.Stated.{few_in_turn}
-use Rattle.prta_writer.proofs.verifying.jobs_in_turn.Goals as goal
-use Rattle.prta_writer.proofs.verifying.jobs_in_turn.Goals.{After-period}
+use Rattle.prta_writer.proofs.NumberRows.{few_in_turn}
+use Rattle.prta_writer.proofs.steadiness.jobs_in_turn.Goals as goal
+use Rattle.prta_writer.proofs.steadiness.jobs_in_turn.Goals.{After-period}
 
 count_is : (c : After-period) → c.hyperperiod.result / c.period.result ≡ jobs_in_turn c.args.sheet.now c.args.task
 count_is c =

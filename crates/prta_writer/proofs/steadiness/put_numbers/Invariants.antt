@@ -2,8 +2,8 @@
 use Rattle.std.proofs.Common.{◌≡◌, ◌+◌, ◌≤◌, ◌++◌, length, flat_map}
 use Rattle.std.specs.List.{range_with_len}
 use Rattle.prta_writer.specs.Writing.{TookAllBut}
-use Rattle.prta_writer.proofs.Stated.{number_row}
-use Rattle.prta_writer.proofs.verifying.put_numbers.Given as goal
+use Rattle.prta_writer.proofs.NumberRows.{number_row}
+use Rattle.prta_writer.proofs.steadiness.put_numbers.Given as goal
 
 abbrev pub invariant-loop-number : goal.invariant-loop-number
 invariant-loop-number g l = record {

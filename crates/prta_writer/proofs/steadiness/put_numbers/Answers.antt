@@ -1,16 +1,16 @@
 use Rattle.std.proofs.Common.{rules, ◌++◌, length, arith}
 use Rattle.prta_sheet.specs.Sheet.{Sheet}
 use Rattle.prta_writer.specs.Writing.{TookPart}
-use Rattle.prta_writer.specs.Verifying.{steady_lines}
+use Rattle.prta_writer.specs.Steadiness.{number_lines}
 use Rattle.prta_writer.proofs.Checks.{few_jobs}
 use Rattle.prta_writer.proofs.RowsInTurn.{row_pushed, row_cut}
-use Rattle.prta_writer.proofs.Stated.{number_row}
-use Rattle.prta_writer.proofs.verifying.put_numbers.Goals as goal
+use Rattle.prta_writer.proofs.NumberRows.{number_row}
+use Rattle.prta_writer.proofs.steadiness.put_numbers.Goals as goal
 
 pub returns-in_err-make_room-clause-part : goal.returns-in_err-make_room-clause-part
 returns-in_err-make_room-clause-part g c =
     let sheet : Sheet = c.args.sheet.now in
-    let part : TookPart (g.O.Sink.taken c.args.out.now) (g.O.Sink.taken c.make_room.new.sink) (c.args.page.now.written ++ steady_lines sheet c.args.task c.args.found.now) =
+    let part : TookPart (g.O.Sink.taken c.args.out.now) (g.O.Sink.taken c.make_room.new.sink) (c.args.page.now.written ++ number_lines sheet c.args.task c.args.found.now) =
     row_cut (g.O.Sink.taken c.args.out.now) (g.O.Sink.taken c.loop-number.out) (g.O.Sink.taken c.make_room.new.sink) c.args.page.now.written (number_row sheet c.args.task c.args.found.now)
     c.loop-number.number c.loop-number.page.written c.loop-number.invariant.took (length c.args.found.now) (omega (arith, c.loop-number-test.true)) c.in_err-make_room.ensures.part in
     search (rules, part)
