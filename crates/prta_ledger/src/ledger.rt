@@ -1,6 +1,6 @@
 //! A ledger of limited room.
 
-ghost use Rattle.std.specs.Prelude.{◌≡◌, ◌-◌, ◌<◌, [], ◌∷◌, ◌++◌, length, Some, IfOk};
+ghost use Rattle.std.specs.Prelude.{◌≡◌, ◌-◌, ◌<◌, [], ◌∷◌, ◌++◌, length, false, Some, IfOk};
 ghost use Rattle.prta_ledger.specs.Sums.{counts_for, part_for, sum_for};
 ghost use Rattle.prta_ledger.specs.LedgerState.{empty_ledger};
 
@@ -72,6 +72,12 @@ impl Notes for Ledger {
     ghost noted = { λ s. Some s.entries };
 
     ghost room = { λ s. s.room - length s.entries };
+
+    fn is_silent(&self) -> bool
+        ensures { result ≡ false }
+    {
+        false
+    }
 
     fn spare(&self) -> usize {
         self.room - self.entries.len()

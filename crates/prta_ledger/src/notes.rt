@@ -1,6 +1,6 @@
 //! What takes entries.
 
-ghost use Rattle.std.specs.Prelude.{◌≡◌, ℕ, ◌+◌, ◌-◌, ◌^◌, ◌≤◌, Option, None, List, [], ◌∷◌};
+ghost use Rattle.std.specs.Prelude.{◌≡◌, ℕ, ◌+◌, ◌-◌, ◌^◌, ◌≤◌, true, Option, None, List, [], ◌∷◌};
 ghost use Rattle.prta_ledger.specs.declared.entry.Entry.{Entry};
 ghost use Rattle.prta_ledger.specs.Noted.{appended};
 
@@ -14,6 +14,10 @@ pub trait Notes {
     ghost noted: { Self → Option (List Entry) };
 
     ghost room: { Self → ℕ };
+
+    /// Whether entries are nowhere told, so that nobody can miss one.
+    fn is_silent(&self) -> bool
+        ensures { result ≡ true → noted self.now ≡ None };
 
     /// How many more entries it takes at least.
     fn spare(&self) -> usize
@@ -34,6 +38,12 @@ impl Notes for NoNotes {
     ghost noted = { λ _. None };
 
     ghost room = { λ _. 2 ^ 64 - 1 };
+
+    fn is_silent(&self) -> bool
+        ensures { result ≡ true }
+    {
+        true
+    }
 
     fn spare(&self) -> usize
         ensures { result ≡ 2 ^ 64 - 1 }

@@ -35,6 +35,7 @@ fn a_ledger_keeps_its_entries_and_adds_them_up(rt: HostRuntime) -> Result<(), Fa
     }
     assert_eq!(rt; ledger.spare(), 1);
     assert_eq!(rt; ledger.entries().len(), 11);
+    assert!(rt; NoNotes.is_silent() && !ledger.is_silent());
     let sums = [
         (0, 0, 1_152_921_504_606_846_976),
         (0, 1, 2_017_612_633_061_982_208),

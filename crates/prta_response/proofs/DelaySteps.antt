@@ -1,5 +1,5 @@
 -- The delays of a response run, job by job.
-use Rattle.std.proofs.Common.{◌≡◌, ℕ, ◌+◌, ◌-◌, ◌≤◌, Option, List, [], ◌∷◌, ◌++◌, length, length-append, refl, ap, sym, ◌∙◌, subst, arith}
+use Rattle.std.proofs.Common.{◌≡◌, ℕ, ◌+◌, ◌-◌, ◌≤◌, Option, List, [], ◌∷◌, ◌++◌, length, length-append, append-nil, append_assoc, refl, ap, ap₂, sym, ◌∙◌, subst, arith}
 use Rattle.std.proofs.lemmas.List.Sums.{fold-append, sum_by-cons}
 use Rattle.prta_mass.specs.Table.{Table}
 use Rattle.prta_mass.specs.declared.direction.Dir.{Dir}
@@ -61,20 +61,21 @@ module _ {dir : Dir} {table : Job → Table} {r task number made : ℕ} {before 
         notes = subst (λ os. AreNoted dir task number (1 + made) os noted_before room_before now' room') joined notes;
       }
 
-  -- one, with its table
-  pub delayed_one : {job : Job} {times : Table} {cells : List ℕ} {now : Option (List Entry)} {room : ℕ} → times ≡ table job →
-      cells ≡ delayed dir times (job.release - r) before →
-      now ≡ appended noted_before (entries_of dir task number (made + 1) (delay_operation times (job.release - r) before)) →
-      room_before ≤ room + length (entries_of dir task number (made + 1) (delay_operation times (job.release - r) before)) →
+  -- one, with its table and its release
+  pub delayed_one : {job : Job} {times : Table} {cells : List ℕ} {now : Option (List Entry)} {room at : ℕ} → times ≡ table job → at ≡ job.release →
+      cells ≡ delayed dir times (at - r) before →
+      now ≡ appended noted_before (entries_of dir task number (made + 1) (delay_operation times (at - r) before)) →
+      room_before ≤ room + length (entries_of dir task number (made + 1) (delay_operation times (at - r) before)) →
       AreDelayed dir task number made table r (job ∷ []) before noted_before room_before cells now room (made + 1)
-  delayed_one {job} {times} {cells} {now} {room} own cells_are entries_are room_is =
-      let op : Operation = delay_operation times (job.release - r) before in
+  delayed_one {job} {times} {cells} {now} {room} {at} own then cells_are entries_are room_is =
+      let op : Operation = delay_operation times (at - r) before in
       let next : made + 1 ≡ 1 + made = omega arith in
+      let one : AreNoted dir task number (1 + made) (op ∷ []) noted_before room_before now room =
+      subst (λ n. AreNoted dir task number n (op ∷ []) noted_before room_before now room) next (noted_one dir task number (made + 1) op noted_before room_before now room entries_are room_is) in
       record {
-        cells = cells_are ∙ ap (λ t. delayed dir t (job.release - r) before) own;
+        cells = cells_are ∙ ap₂ (λ t n. delayed dir t (n - r) before) own then;
         count = omega arith;
-        notes = subst (λ t. AreNoted dir task number (1 + made) (delay_operation t (job.release - r) before ∷ []) noted_before room_before now room) own
-            (subst (λ n. AreNoted dir task number n (op ∷ []) noted_before room_before now room) next (noted_one dir task number (made + 1) op noted_before room_before now room entries_are room_is));
+        notes = subst (λ (o : Operation). AreNoted dir task number (1 + made) (o ∷ []) noted_before room_before now room) (ap₂ (λ t n. delay_operation t (n - r) before) own then) one;
       }
 
   -- with equal parts
@@ -92,3 +93,44 @@ module _ {dir : Dir} {table : Job → Table} {r task number made : ℕ} {before 
   pub delayed_room : {jobs : List Job} {cells : List ℕ} {now : Option (List Entry)} {room op : ℕ} → AreDelayed dir task number made table r jobs before noted_before room_before cells now room op →
       room_before ≤ room + length jobs
   delayed_room {jobs} is = omega (arith, is.notes.room, length-noted dir task number (1 + made) (delays dir table r jobs before), count_delays dir table r jobs before)
+
+-- there is room for one more where there was for all, and its number is among theirs
+pub record HasNext (count room_before room op : ℕ) : Type 0 where
+  pub free : count ≤ room_before → 1 ≤ room
+  pub listed : op + 1 ≤ count
+
+-- of all delays some are made, and the others are still to come
+pub record AreDelayedFirst (dir : Dir) (task number : ℕ) (table : Job → Table) (r : ℕ) (all rest : List Job) (cells_before : List ℕ) (noted_before : Option (List Entry)) (room_before : ℕ)
+    (cells_now : List ℕ) (noted_now : Option (List Entry)) (room_now op : ℕ) : Type 0 where
+  pub done : List Job
+  pub split : all ≡ done ++ rest
+  pub steps : AreDelayed dir task number 0 table r done cells_before noted_before room_before cells_now noted_now room_now op
+
+module _ {dir : Dir} {task number : ℕ} {table : Job → Table} {r : ℕ} {all : List Job} {before : List ℕ} {noted_before : Option (List Entry)} {room_before : ℕ} where
+  pub first_none : {rest : List Job} → rest ≡ all → AreDelayedFirst dir task number table r all rest before noted_before room_before before noted_before room_before 0
+  first_none same = record { done = []; split = sym same; steps = delayed_none }
+
+  pub first_more : {job : Job} {jobs rest : List Job} {cells cells' : List ℕ} {now now' : Option (List Entry)} {room room' op op' : ℕ} → rest ≡ job ∷ jobs →
+      AreDelayed dir task number op table r (job ∷ []) cells now room cells' now' room' op' →
+      AreDelayedFirst dir task number table r all rest before noted_before room_before cells now room op →
+      AreDelayedFirst dir task number table r all jobs before noted_before room_before cells' now' room' op'
+  first_more {job} {jobs} next step so_far = record {
+    done = so_far.done ++ job ∷ [];
+    split = so_far.split ∙ ap (λ js. so_far.done ++ js) next ∙ sym (append_assoc so_far.done (job ∷ []) jobs);
+    steps = delayed_then refl so_far.steps step;
+  }
+
+  pub first_all : {rest : List Job} {cells : List ℕ} {now : Option (List Entry)} {room op : ℕ} → rest ≡ [] →
+      AreDelayedFirst dir task number table r all rest before noted_before room_before cells now room op →
+      AreDelayed dir task number 0 table r all before noted_before room_before cells now room op
+  first_all none so_far = delayed_same (so_far.split ∙ ap (λ js. so_far.done ++ js) none ∙ append-nil so_far.done) refl refl refl refl so_far.steps
+
+  pub first_next : {job : Job} {jobs rest : List Job} {cells : List ℕ} {now : Option (List Entry)} {room op : ℕ} → rest ≡ job ∷ jobs →
+      AreDelayedFirst dir task number table r all rest before noted_before room_before cells now room op → HasNext (length all) room_before room op
+  first_next {job} {jobs} {rest} next so_far =
+      let parts : length all ≡ length so_far.done + length rest = ap length so_far.split ∙ length-append so_far.done rest in
+      let more : length rest ≡ length jobs + 1 = ap length next ∙ omega arith in
+      record {
+        free = λ enough. omega (arith, parts, more, delayed_room so_far.steps);
+        listed = omega (arith, parts, more, so_far.steps.count);
+      }

@@ -14,3 +14,5 @@ pub mod Around
 pub mod EvenTasks
 pub mod DelaySteps
 pub mod DelayingJobs
+pub mod Walk
+pub mod Reach

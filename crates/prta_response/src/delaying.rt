@@ -1,9 +1,8 @@
 //! The delays of a response run.
 
-ghost use Rattle.std.specs.Prelude.{◌≡◌, ℕ, ◌+◌, ◌-◌, ◌/◌, ◌^◌, ◌<◌, ◌≤◌, true, false, filter, length};
+ghost use Rattle.std.specs.Prelude.{◌≡◌, ◌+◌, ◌-◌, ◌<◌, ◌≤◌, false, length};
 ghost use Rattle.prta_mass.specs.Chances.{IsChances};
-ghost use Rattle.prta_sheet.specs.Sheet.{task_at, table_in};
-ghost use Rattle.prta_sheet.specs.Job.{is_release, nth_job, released_at, table_of};
+ghost use Rattle.prta_sheet.specs.Job.{nth_job, table_of};
 ghost use Rattle.prta_sheet.specs.Counts.{job_count};
 ghost use Rattle.prta_jobs.specs.TaskSet.{holds};
 ghost use Rattle.prta_jobs.specs.Instant.{IsOnSheet};
@@ -15,13 +14,15 @@ ghost use Rattle.prta_backlog.specs.AreNoted.{AreNoted};
 ghost use Rattle.prta_backlog.specs.Pass.{level_of};
 ghost use Rattle.prta_response.specs.Response.{all_delayed};
 ghost use Rattle.prta_response.specs.Delays.{delay_operation, delays};
+ghost use Rattle.prta_response.specs.Coming.{to_come, IsComing};
 
+use crate::coming::Coming;
 use prta_dist::Kernel;
-use prta_jobs::{TaskSet, next_instant, release};
+use prta_jobs::{Job, TaskSet, release};
 use prta_ledger::{Entry, Kind, Notes};
 use prta_mass::{Dir, TimeTable};
 use prta_preempt::{delay, delays_keep_chances};
-use prta_sheet::{Sheet, Task};
+use prta_sheet::Sheet;
 
 // The job whose response is delayed, as entries name it, with its release; and the direction of the run.
 #[derive(Clone, Copy)]
@@ -47,6 +48,22 @@ impl Delayed {
             number,
             release: release(sheet, task, number),
         }
+    }
+
+    // The jobs that delay it where they are released less than this many ticks after it.
+    pub(crate) fn coming(self, sheet: &Sheet, higher: TaskSet, ticks: usize) -> Coming
+        requires on_sheet { IsOnSheet sheet.now.tasks (has_task (level_of higher self.task)) }
+        requires apart { holds higher self.task ≡ false }
+        requires release { self.release ≤ 64000000 }
+        requires some { 0 < ticks }
+        requires few { ticks < 16384 }
+        ensures jobs { to_come sheet.now.tasks result ≡ delaying sheet.now.tasks (level_of higher self.task) self.release ticks }
+        ensures coming { IsComing sheet.now.tasks result }
+        ensures at { result.at ≡ self.release }
+        ensures end { result.end ≡ self.release + ticks }
+    {
+        let end = self.release + ticks as u64;
+        Coming::new(sheet, higher, self.task as usize, self.release, end)
     }
 
     // Delays the cells, which go to the deadline, by each job of a higher task that is released after this one and before
@@ -78,66 +95,13 @@ impl Delayed {
             (N.noted notes.old) (N.room notes.old) (N.noted notes.new) (N.room notes.new) }
     {
         let _tasks = sheet.tasks();
-        let end = self.release + (cells.len() as u64 - 1);
-        let own = self.task as usize;
-        let level = higher.with(own);
+        let mut coming = self.coming(sheet, higher, cells.len() - 1);
         let mut made = 0;
-        let mut last = self.release;
-        loop {
-            let instant = next_instant(sheet, level, last);
-            if instant.at >= end {
-                return;
-            }
-            let set = instant.released.without(own);
-            made = self.by_released(
-                kernel, cells, tail, room, sheet, set, instant.at, made, notes,
-            );
-            last = instant.at;
+        while let Some(job) = coming.next(sheet) {
+            made += 1;
+            let table = table_of(sheet, job);
+            self.by_one(kernel, cells, tail, room, table, job.release, made, notes);
         }
-    }
-
-    // Delays the cells by the jobs that the tasks of a set release at a time, in sheet order, and answers how many delays
-    // were made then.
-    fn by_released<K: Kernel, N: Notes>(
-        self,
-        kernel: &K,
-        cells: &mut [u64],
-        tail: &mut [u64],
-        room: &mut [u64],
-        sheet: &Sheet,
-        set: TaskSet,
-        at: u64,
-        made: u32,
-        notes: &mut N,
-    ) -> u32
-        requires released { (i : ℕ) → holds set i ≡ true → is_release (task_at sheet.now.tasks i) at ≡ true }
-        requires after { self.release ≤ at }
-        requires place { at - self.release < length cells.old }
-        requires at { at < 2 ^ 32 }
-        requires made { made + 12 < 2 ^ 32 }
-        requires tails { length tail.old ≡ length cells.old }
-        requires rooms { length room.old ≡ length cells.old }
-        requires chances { IsChances cells.old }
-        requires spare { length (filter (λ job. holds set job.task) (released_at 0 sheet.now.tasks at)) ≤ N.room notes.old }
-        ensures cells { let jobs = filter (λ job. holds set job.task) (released_at 0 sheet.now.tasks at) in
-            cells.new ≡ all_delayed self.dir (table_of sheet.now.tasks) self.release jobs cells.old }
-        ensures chances { IsChances cells.new }
-        ensures made { let jobs = filter (λ job. holds set job.task) (released_at 0 sheet.now.tasks at) in result ≡ made + length jobs }
-        ensures few { result ≤ made + 12 }
-        ensures noted { let jobs = filter (λ job. holds set job.task) (released_at 0 sheet.now.tasks at) in
-            AreNoted self.dir self.task self.number (1 + made) (delays self.dir (table_of sheet.now.tasks) self.release jobs cells.old)
-            (N.noted notes.old) (N.room notes.old) (N.noted notes.new) (N.room notes.new) }
-    {
-        let tasks = sheet.tasks();
-        let mut op = made;
-        for i in 0..tasks.len() {
-            if set.holds(i) {
-                op += 1;
-                let table = table_at(&tasks[i], at);
-                self.by_one(kernel, cells, tail, room, table, at, op, notes);
-            }
-        }
-        op
     }
 
     // Delays the cells by a job with the times of the table that is released at a time, and notes the delay of this
@@ -183,14 +147,10 @@ impl Delayed {
     }
 }
 
-// The table of the job that the task releases at a time.
-fn table_at(task: &Task, at: u64) -> &TimeTable
-    requires period { 1 ≤ task.now.period }
-    requires cycle { 1 ≤ length task.now.cycle }
-    requires reached { task.now.offset ≤ at }
-    requires at { at < 2 ^ 32 }
-    ensures { result.now ≡ table_in task.now ((at - task.now.offset) / task.now.period) }
+// The table of a job.
+pub(crate) fn table_of(sheet: &Sheet, job: Job) -> &TimeTable
+    requires { job.task < length sheet.now.tasks }
+    ensures { result.now ≡ table_of sheet.now.tasks job }
 {
-    let number = (at - task.offset() as u64) / task.period() as u64;
-    task.table(number as u32)
+    sheet.tasks()[job.task].table(job.number)
 }

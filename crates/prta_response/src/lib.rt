@@ -2,8 +2,10 @@
 //! the law of starts, by which such lists and numbers bound the machine's exact chances.
 #![tactic(auto)]
 
+mod coming;
 mod delaying;
 mod laws;
+mod meeting;
 mod responding;
 #[cfg(test)]
 mod tests;

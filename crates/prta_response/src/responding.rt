@@ -16,6 +16,7 @@ ghost use Rattle.prta_response.specs.Delays.{response_delays, delay_entries};
 ghost use Rattle.prta_response.specs.Fitting.{FitsCap};
 
 use crate::delaying::Delayed;
+use crate::meeting::meet;
 use prta_backlog::Bench;
 use prta_dist::{Curve, Kernel};
 use prta_jobs::TaskSet;
@@ -50,6 +51,18 @@ pub fn respond<C: Curve, K: Kernel, N: Notes>(
         (vec_len bench.new.cells) (vec_len bench.new.tail) (vec_len bench.new.room) }
 {
     let job = Delayed::new(sheet, task, number, dir);
+    if notes.is_silent() {
+        return meet(
+            &bench.main,
+            &bench.kernel,
+            &mut bench.cells,
+            &mut bench.tail,
+            &mut bench.room,
+            sheet,
+            higher,
+            job,
+        );
+    }
     respond_in(
         &bench.main,
         &bench.kernel,

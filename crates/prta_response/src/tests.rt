@@ -38,50 +38,65 @@ const DUE_AT_8: &[u8] =
 const THIRDS: &[u8] =
     b"format = 1\ncap = 12\n[[task]]\nname = \"A\"\nperiod = 4\ndeadline = 4\ntimes = [[1, 2], [2, 1]]\n[[task]]\nname = \"B\"\nperiod = 8\ndeadline = 7\ntimes = [[2, 1], [4, 1]]\n";
 
-// The delay of the second task's first job by the first task's second one, where it is rounded.
-const DELAY_DOWN: Entry = Entry {
-    dir: Down,
-    kind: Kind::Delay,
-    task: 1,
-    job: 0,
-    op: 1,
-    amount: 1,
-};
+// Each 3 ticks a job that takes 1 tick at least and may take 3: most of what the deadline leaves is above the least times.
+const SHORT_LEASTS: &[u8] =
+    b"format = 1\ncap = 32\n[[task]]\nname = \"A\"\nperiod = 3\ndeadline = 3\ntimes = [[1, 1], [2, 1], [3, 1]]\n[[task]]\nname = \"B\"\nperiod = 15\ndeadline = 14\ntimes = [[2, 2], [9, 1]]\n";
 
-const DELAY_UP: Entry = Entry {
-    dir: Up,
-    kind: Kind::Delay,
-    task: 1,
-    job: 0,
-    op: 1,
-    amount: 1,
-};
+// Each 4 ticks a job of 3 or 4 ticks: the last delays are released later than the deadline leaves above the least times.
+const LONG_LEASTS: &[u8] =
+    b"format = 1\ncap = 32\n[[task]]\nname = \"A\"\nperiod = 4\ndeadline = 4\ntimes = [[3, 2], [4, 1]]\n[[task]]\nname = \"B\"\nperiod = 20\ndeadline = 17\ntimes = [[1, 1], [2, 1], [6, 1]]\n";
 
-// A sheet and a direction; then the number of the second task's first job, and the entries of its delays.
-static NUMBERS: [(&[u8], Dir, u64, &[Entry]); 10] = [
-    (DUE_AT_4, Down, HALF, &[]),
-    (DUE_AT_4, Up, HALF, &[]),
-    (DUE_AT_5, Down, HALF, &[]),
-    (DUE_AT_5, Up, HALF, &[]),
-    (DUE_AT_7, Down, EIGHTH, &[]),
-    (DUE_AT_7, Up, EIGHTH, &[]),
-    (DUE_AT_8, Down, 0, &[]),
-    (DUE_AT_8, Up, 0, &[]),
-    (THIRDS, Down, 64_051_194_700_380_387, &[DELAY_DOWN]),
-    (THIRDS, Up, 64_051_194_700_380_388, &[DELAY_UP]),
+// A sheet and a direction; then the number of the second task's first job, and how many of its delays, the first ones,
+// are rounded.
+static NUMBERS: [(&[u8], Dir, u64, usize); 14] = [
+    (DUE_AT_4, Down, HALF, 0),
+    (DUE_AT_4, Up, HALF, 0),
+    (DUE_AT_5, Down, HALF, 0),
+    (DUE_AT_5, Up, HALF, 0),
+    (DUE_AT_7, Down, EIGHTH, 0),
+    (DUE_AT_7, Up, EIGHTH, 0),
+    (DUE_AT_8, Down, 0, 0),
+    (DUE_AT_8, Up, 0, 0),
+    (THIRDS, Down, 64_051_194_700_380_387, 1),
+    (THIRDS, Up, 64_051_194_700_380_388, 1),
+    (SHORT_LEASTS, Down, 417_518_898_787_664_747, 4),
+    (SHORT_LEASTS, Up, 417_518_898_787_664_750, 3),
+    (LONG_LEASTS, Down, 431_752_497_609_971_500, 3),
+    (LONG_LEASTS, Up, 431_752_497_609_971_503, 3),
 ];
 
 #[test]
 fn numbers_and_delays(rt: HostRuntime) -> Result<(), Fail> {
-    for (text, dir, number, delays) in NUMBERS.iter() {
+    for (text, dir, number, rounded) in NUMBERS.iter() {
         let sheet = read_sheet(rt.alloc(), text)?;
         let mut bench = bench_of(rt.alloc(), &sheet)?;
         let mut ledger = Ledger::with_room(rt.alloc(), 10)?;
         let found = number_of(rt.alloc(), &mut bench, &sheet, *dir, &mut ledger)?;
         assert!(rt; found == Some(*number));
-        assert!(rt; ledger.entries() == *delays);
+        assert!(rt; are_delays(ledger.entries(), *dir, *rounded));
+        // The same where no entry is told.
+        let alone = number_of(rt.alloc(), &mut bench, &sheet, *dir, &mut NoNotes)?;
+        assert!(rt; alone == found);
     }
     Ok(())
+}
+
+// Whether the entries are those of so many delays of the second task's first job, numbered from 1 on.
+fn are_delays(entries: &[Entry], dir: Dir, count: usize) -> bool {
+    for (k, entry) in entries.iter().enumerate() {
+        let delay = Entry {
+            dir,
+            kind: Kind::Delay,
+            task: 1,
+            job: 0,
+            op: entry.op,
+            amount: 1,
+        };
+        if *entry != delay || entry.op as usize != k + 1 {
+            return false;
+        }
+    }
+    entries.len() == count
 }
 
 #[test]
@@ -121,6 +136,7 @@ fn number_of<N: Notes>(
     notes: &mut N,
 ) -> Result<Option<u64>, NoMemory>
     requires { FitsCap sheet.now.settings.cap bench.old.main bench.old.spare bench.old.kept (vec_len bench.old.cells) (vec_len bench.old.tail) (vec_len bench.old.room) }
+    ensures { FitsCap sheet.now.settings.cap bench.new.main bench.new.spare bench.new.kept (vec_len bench.new.cells) (vec_len bench.new.tail) (vec_len bench.new.room) }
 {
     if sheet.tasks().len() < 2 || sheet.job_count(1) == 0 {
         return Ok(None);
