@@ -11,6 +11,5 @@ pub mod Uppers
 pub mod Misses
 pub mod Reordered
 pub mod Verdicts
-pub mod RoomFits
 pub mod Numbers
 pub mod LowestPlaces

@@ -11,7 +11,6 @@ use Rattle.prta_sheet.specs.Chance.{miss_weight, chance_total}
 use Rattle.prta_jobs.specs.Permutation.{is_above}
 use Rattle.prta_backlog.specs.Level.{Level}
 use Rattle.prta_response.specs.Response.{number_of}
-use Rattle.prta_dual.specs.declared.bounds.Bounds.{Bounds}
 
 -- the level of a task with exactly the tasks of a set above it
 abbrev pub level : (ℕ → Bool) → ℕ → Level
@@ -56,8 +55,3 @@ pub record SomeChanceFails (sheet : Sheet) (order : List ℕ) : Type 0 where
   pub number : ℕ
   pub analysed : IsAnalysed sheet task number
   pub fails : ChanceFails sheet order (nth_job sheet.tasks task number)
-
--- of the two numbers of a job that of a direction
-abbrev pub number_in : Dir → Bounds → ℕ
-number_in Up bounds = bounds.upper
-number_in Down bounds = bounds.lower

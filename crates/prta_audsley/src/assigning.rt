@@ -1,7 +1,6 @@
 //! The assignment of priorities.
 
 ghost use Rattle.std.specs.Prelude.{◌≡◌, ◌≤◌, true, IfOk, IfErr, length, vec_len};
-ghost use Rattle.prta_sheet.specs.Counts.{all_jobs};
 ghost use Rattle.prta_jobs.specs.Permutation.{is_order};
 ghost use Rattle.prta_response.specs.Fitting.{FitsCap};
 ghost use Rattle.prta_audsley.specs.Verdict.{verdict, Says, IsExactly};
@@ -11,7 +10,6 @@ use crate::laws::verdicts_hold;
 use crate::placing::place_all;
 use prta_backlog::Bench;
 use prta_dist::{Curve, Kernel};
-use prta_dual::Bounds;
 use prta_jobs::Order;
 use prta_mass::{Dir, NoMemory};
 use prta_sheet::Sheet;
@@ -38,32 +36,24 @@ pub fn assign<C: Curve, K: Kernel>(
 {
     verdicts_hold();
     let _tasks = sheet.tasks();
-    let none = Bounds { lower: 0, upper: 0 };
     let order = Order::of_sheet(alloc, sheet)?;
-    let mut places = vec![in alloc; none; sheet.all_jobs()]?;
-    Ok(decide(bench, sheet, order, &mut places))
+    Ok(decide(bench, sheet, order))
 }
 
-// The verdict, without taking memory; the places hold any numbers afterwards.
-fn decide<C: Curve, K: Kernel>(
-    bench: &mut Bench<C, K>,
-    sheet: &Sheet,
-    order: Order,
-    places: &mut [Bounds],
-) -> Assigned
+// The verdict, without taking memory.
+fn decide<C: Curve, K: Kernel>(bench: &mut Bench<C, K>, sheet: &Sheet, order: Order) -> Assigned
     requires order { is_order (length sheet.now.tasks) order ≡ true }
     requires fits { FitsCap sheet.now.settings.cap (C.cells bench.old.main) (C.cells bench.old.spare) (C.cells bench.old.kept)
         (vec_len bench.old.cells) (vec_len bench.old.tail) (vec_len bench.old.room) }
-    requires places { all_jobs sheet.now ≤ length places.old }
     ensures verdict { result ≡ verdict sheet.now }
     ensures fits { FitsCap sheet.now.settings.cap (C.cells bench.new.main) (C.cells bench.new.spare) (C.cells bench.new.kept)
         (vec_len bench.new.cells) (vec_len bench.new.tail) (vec_len bench.new.room) }
 {
     let _tasks = sheet.tasks();
     let mut order = order;
-    match place_all(bench, sheet, Dir::Up, &mut order, places) {
+    match place_all(bench, sheet, Dir::Up, &mut order) {
         None => Assigned::Order(order),
-        Some(unplaced) => match place_all(bench, sheet, Dir::Down, &mut order, places) {
+        Some(unplaced) => match place_all(bench, sheet, Dir::Down, &mut order) {
             None => Assigned::Undecided { stuck: unplaced },
             Some(below) => Assigned::Impossible { stuck: below },
         },

@@ -4,7 +4,6 @@
 mod assigned;
 mod assigning;
 mod laws;
-mod passing;
 mod placing;
 #[cfg(test)]
 mod tests;

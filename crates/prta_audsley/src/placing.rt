@@ -1,7 +1,6 @@
 //! The greedy assignment, from the lowest place up.
 
 ghost use Rattle.std.specs.Prelude.{◌≡◌, ℕ, ◌<◌, ◌≤◌, true, ◌&&◌, position, nat_eq, swap, IfSome, length, vec_len};
-ghost use Rattle.prta_sheet.specs.Counts.{all_jobs};
 ghost use Rattle.prta_sheet.specs.Machine.{place};
 ghost use Rattle.prta_jobs.specs.TaskSet.{holds};
 ghost use Rattle.prta_jobs.specs.Permutation.{is_order};
@@ -10,10 +9,9 @@ ghost use Rattle.prta_audsley.specs.Passing.{task_passes};
 ghost use Rattle.prta_audsley.specs.Verdict.{greedy_by, other_tasks};
 ghost use Rattle.prta_audsley.specs.Placing.{IsSetOf, IsFirstPassing, outcome_of};
 
-use crate::passing::passes_below;
 use prta_backlog::Bench;
 use prta_dist::{Curve, Kernel};
-use prta_dual::Bounds;
+use prta_dual::first_failing_below;
 use prta_jobs::{Order, TaskSet};
 use prta_mass::Dir;
 use prta_sheet::Sheet;
@@ -25,23 +23,20 @@ pub(crate) fn place_all<C: Curve, K: Kernel>(
     sheet: &Sheet,
     dir: Dir,
     order: &mut Order,
-    places: &mut [Bounds],
 ) -> Option<TaskSet>
     requires order { is_order (length sheet.now.tasks) order.old ≡ true }
     requires fits { FitsCap sheet.now.settings.cap (C.cells bench.old.main) (C.cells bench.old.spare) (C.cells bench.old.kept)
         (vec_len bench.old.cells) (vec_len bench.old.tail) (vec_len bench.old.room) }
-    requires places { all_jobs sheet.now ≤ length places.old }
     ensures outcome { outcome_of (length sheet.now.tasks) order.new result ≡ greedy_by dir sheet.now }
     ensures set { IfSome result (IsSetOf (length sheet.now.tasks)) }
     ensures order { is_order (length sheet.now.tasks) order.new ≡ true }
-    ensures places { length places.new ≡ length places.old }
     ensures fits { FitsCap sheet.now.settings.cap (C.cells bench.new.main) (C.cells bench.new.spare) (C.cells bench.new.kept)
         (vec_len bench.new.cells) (vec_len bench.new.tail) (vec_len bench.new.room) }
 {
     let count = sheet.tasks().len();
     let mut unplaced = TaskSet::below(count);
     for placed in 0..count {
-        match first_passing(bench, sheet, unplaced, dir, places) {
+        match first_passing(bench, sheet, unplaced, dir) {
             Some(task) => {
                 move_to(order, task, count - 1 - placed);
                 unplaced = unplaced.without(task);
@@ -58,19 +53,16 @@ fn first_passing<C: Curve, K: Kernel>(
     sheet: &Sheet,
     unplaced: TaskSet,
     dir: Dir,
-    places: &mut [Bounds],
 ) -> Option<usize>
     requires set { IsSetOf (length sheet.now.tasks) unplaced }
     requires fits { FitsCap sheet.now.settings.cap (C.cells bench.old.main) (C.cells bench.old.spare) (C.cells bench.old.kept)
         (vec_len bench.old.cells) (vec_len bench.old.tail) (vec_len bench.old.room) }
-    requires places { all_jobs sheet.now ≤ length places.old }
     ensures first { IsFirstPassing (task_passes dir sheet.now) (length sheet.now.tasks) unplaced result }
-    ensures places { length places.new ≡ length places.old }
     ensures fits { FitsCap sheet.now.settings.cap (C.cells bench.new.main) (C.cells bench.new.spare) (C.cells bench.new.kept)
         (vec_len bench.new.cells) (vec_len bench.new.tail) (vec_len bench.new.room) }
 {
     for task in 0..sheet.tasks().len() {
-        if passes_lowest(bench, sheet, unplaced, task, dir, places) {
+        if passes_lowest(bench, sheet, unplaced, task, dir) {
             return Some(task);
         }
     }
@@ -84,15 +76,12 @@ fn passes_lowest<C: Curve, K: Kernel>(
     unplaced: TaskSet,
     task: usize,
     dir: Dir,
-    places: &mut [Bounds],
 ) -> bool
     requires set { IsSetOf (length sheet.now.tasks) unplaced }
     requires task { task < length sheet.now.tasks }
     requires fits { FitsCap sheet.now.settings.cap (C.cells bench.old.main) (C.cells bench.old.spare) (C.cells bench.old.kept)
         (vec_len bench.old.cells) (vec_len bench.old.tail) (vec_len bench.old.room) }
-    requires places { all_jobs sheet.now ≤ length places.old }
     ensures passes { result ≡ (holds unplaced task && task_passes dir sheet.now (other_tasks unplaced task) task) }
-    ensures places { length places.new ≡ length places.old }
     ensures fits { FitsCap sheet.now.settings.cap (C.cells bench.new.main) (C.cells bench.new.spare) (C.cells bench.new.kept)
         (vec_len bench.new.cells) (vec_len bench.new.tail) (vec_len bench.new.room) }
 {
@@ -101,7 +90,7 @@ fn passes_lowest<C: Curve, K: Kernel>(
         return false;
     }
     let others = unplaced.without(task);
-    passes_below(bench, sheet, others, task, dir, places)
+    first_failing_below(bench, sheet, others, task, dir).is_none()
 }
 
 // Exchanges the task with the one that stands at a place.

@@ -8,3 +8,7 @@ pub mod RoomSoFar
 pub mod Room
 pub mod Passing
 pub mod Writing
+pub mod OwnJobs
+pub mod Finding
+pub mod RoomFits
+pub mod FirstFailing

@@ -1,5 +1,6 @@
 -- Laws of the two numbers and their ledger.
-use Rattle.std.specs.Prelude.{◌≡◌, ℕ, ◌+◌, ◌*◌, ◌<◌, ◌≤◌, false, List, length}
+use Rattle.std.specs.Prelude.{◌≡◌, ℕ, ◌+◌, ◌-◌, ◌*◌, ◌^◌, ◌<◌, ◌≤◌, false, List, length, map}
+use Rattle.std.specs.List.{range_with_len}
 use Rattle.prta_mass.specs.Unit.{unit}
 use Rattle.prta_sheet.specs.Sheet.{Sheet}
 use Rattle.prta_sheet.specs.Job.{nth_job}
@@ -7,7 +8,7 @@ use Rattle.prta_sheet.specs.Counts.{job_count}
 use Rattle.prta_sheet.specs.Chance.{miss_weight, chance_total}
 use Rattle.prta_sheet.specs.Accepted.{IsAccepted}
 use Rattle.prta_backlog.specs.Level.{Level}
-use Rattle.prta_backlog.specs.Room.{room_for}
+use Rattle.prta_backlog.specs.Room.{own_jobs, room_for}
 use Rattle.prta_response.specs.Chance.{IsOrderFor}
 use Rattle.prta_dual.specs.Numbers.{lower, upper}
 use Rattle.prta_dual.specs.Entries.{entries, job_sum}
@@ -34,3 +35,13 @@ abbrev pub EntriesHaveRoom : Type 0
 EntriesHaveRoom =
     (sheet : Sheet) (level : Level) → IsAccepted sheet → level.own < length sheet.tasks → level.higher level.own ≡ false →
     length (entries sheet level) + 26 ≤ room_for sheet
+
+-- they can be counted in 64 bits, so what takes any number of them has room
+abbrev pub EntriesAreCountable : Type 0
+EntriesAreCountable = (sheet : Sheet) → IsAccepted sheet → room_for sheet ≤ 2 ^ 64 - 1
+
+-- the analysed jobs of a task, in their order, are its jobs of the numbers from 0 on
+abbrev pub OwnJobsInTurn : Type 0
+OwnJobsInTurn =
+    (sheet : Sheet) (i : ℕ) → IsAccepted sheet → i < length sheet.tasks →
+    own_jobs sheet i ≡ map (nth_job sheet.tasks i) (range_with_len 0 (job_count sheet i))

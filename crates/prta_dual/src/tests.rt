@@ -187,6 +187,7 @@ fn analyses_have_their_numbers_and_entries(rt: HostRuntime) -> Result<(), Fail> 
         let mut bench = bench_of(rt.alloc(), &sheet)?;
         let mut ledger = Ledger::with_room(rt.alloc(), room_for(&sheet))?;
         let mut found = vec![in rt.alloc(); NOTHING; numbers.len()]?;
+        assert!(rt; finds_first(&mut bench, &sheet, task, numbers));
         assert!(rt; is_analysed(&mut bench, &sheet, task, &mut ledger, &mut found));
         assert!(rt; are_numbers(&found, numbers));
         assert!(rt; are_noted(ledger.entries(), task, entries));
@@ -264,6 +265,31 @@ fn is_analysed<C: Curve, K: Kernel, N: Notes>(
     }
     analyse_task(bench, sheet, TaskSet::below(task), task, notes, found);
     true
+}
+
+// Whether the first job that may be late at all, which no allowance of the rows grants, is found with its upper number.
+fn finds_first<C: Curve, K: Kernel>(
+    bench: &mut Bench<C, K>,
+    sheet: &Sheet,
+    task: usize,
+    numbers: &[(u64, u64)],
+) -> bool
+    requires { FitsCap sheet.now.settings.cap (C.cells bench.old.main) (C.cells bench.old.spare) (C.cells bench.old.kept)
+        (vec_len bench.old.cells) (vec_len bench.old.tail) (vec_len bench.old.room) }
+    ensures { FitsCap sheet.now.settings.cap (C.cells bench.new.main) (C.cells bench.new.spare) (C.cells bench.new.kept)
+        (vec_len bench.new.cells) (vec_len bench.new.tail) (vec_len bench.new.room) }
+{
+    if task >= sheet.tasks().len() {
+        return false;
+    }
+    let want = numbers.iter().position(|&(_, upper)| upper > 0);
+    match first_failing_below(bench, sheet, TaskSet::below(task), task, Dir::Up) {
+        Some(found) => {
+            let (number, upper) = (found.number as usize, found.bound);
+            found.task == task && want == Some(number) && numbers[number].1 == upper
+        }
+        None => want.is_none(),
+    }
 }
 
 fn bench_of(alloc: Global, sheet: &Sheet) -> Result<Bench<Dense<Plain>, Plain>, NoMemory>

@@ -8,5 +8,4 @@ use Rattle.prta_audsley.proofs.placing.first_passing.Given as goal
 abbrev pub invariant-loop-task : goal.invariant-loop-task
 invariant-loop-task g l =
     FitsCap l.sheet.settings.cap (g.C.Curve.cells l.bench.main) (g.C.Curve.cells l.bench.spare) (g.C.Curve.cells l.bench.kept) (vec_len l.bench.cells) (vec_len l.bench.tail) (vec_len l.bench.room)
-    × (length l.places ≡ length l.fn.places)
     × ((i : ℕ) → i < l.task → Fails (task_passes l.dir l.sheet) l.unplaced i)

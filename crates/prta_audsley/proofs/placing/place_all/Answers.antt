@@ -15,7 +15,6 @@ loop-placed-init g c =
     let sheet = c.args.sheet.now in
     let accepted = c.tasks-count.ensures.accepted in (
       c.requires.fits,
-      refl,
       placing_starts (task_passes c.args.dir sheet) (length sheet.tasks) c.below-unplaced.result c.args.order.now c.requires.order accepted.few c.below-unplaced.ensures.flags
           (λ i. c.below-unplaced.ensures.members i ∙ ap (λ (all : List Task). nat_lt i (length all)) c.tasks-count.ensures.tasks),
     )
@@ -24,13 +23,13 @@ pub move_to-requires-clause-task : goal.move_to-requires-clause-task
 move_to-requires-clause-task g c =
     let sheet = c.args.sheet.now in
     let low : c.loop-placed.placed < length sheet.tasks = omega (arith, c.loop-placed-test.true, ap length c.tasks-count.ensures.tasks) in
-    place_within (task_passes c.args.dir sheet) (length sheet.tasks) c.loop-placed.placed c.loop-placed.unplaced c.loop-placed.order c.loop-placed.invariant.2 low c.in-Some.task c.in-Some.ensures.first
+    place_within (task_passes c.args.dir sheet) (length sheet.tasks) c.loop-placed.placed c.loop-placed.unplaced c.loop-placed.order c.loop-placed.invariant.1 low c.in-Some.task c.in-Some.ensures.first
 
 pub returns-in-None-clause-outcome : goal.returns-in-None-clause-outcome
 returns-in-None-clause-outcome g c =
     let sheet = c.args.sheet.now in
     let low : c.loop-placed.placed < length sheet.tasks = omega (arith, c.loop-placed-test.true, ap length c.tasks-count.ensures.tasks) in
-    placing_stops (task_passes c.args.dir sheet) (length sheet.tasks) c.loop-placed.placed c.loop-placed.unplaced c.loop-placed.order c.loop-placed.invariant.2 low c.in-None.ensures.first
+    placing_stops (task_passes c.args.dir sheet) (length sheet.tasks) c.loop-placed.placed c.loop-placed.unplaced c.loop-placed.order c.loop-placed.invariant.1 low c.in-None.ensures.first
 
 pub loop-placed-preserved : goal.loop-placed-preserved
 loop-placed-preserved g c =
@@ -38,8 +37,7 @@ loop-placed-preserved g c =
     let order : List ℕ = c.loop-placed.order in
     let low : c.loop-placed.placed < length sheet.tasks = omega (arith, c.loop-placed-test.true, ap length c.tasks-count.ensures.tasks) in (
       c.first_passing.ensures.fits,
-      c.first_passing.ensures.places ∙ c.loop-placed.invariant.1,
-      placing_more (task_passes c.args.dir sheet) (length sheet.tasks) c.loop-placed.placed c.loop-placed.unplaced order c.loop-placed.invariant.2 low c.in-Some.task c.in-Some.ensures.first
+      placing_more (task_passes c.args.dir sheet) (length sheet.tasks) c.loop-placed.placed c.loop-placed.unplaced order c.loop-placed.invariant.1 low c.in-Some.task c.in-Some.ensures.first
           c.move_to.new.order
           (same_place sheet.tasks c.tasks-count.result.now order c.move_to.new.order (place order c.in-Some.task) c.loop-placed.placed c.tasks-count.ensures.tasks c.move_to.ensures)
           c.without-unplaced.result c.without-unplaced.ensures.flags c.without-unplaced.ensures.members,

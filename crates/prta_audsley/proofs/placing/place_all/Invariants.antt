@@ -8,5 +8,4 @@ use Rattle.prta_audsley.proofs.placing.place_all.Given as goal
 abbrev pub invariant-loop-placed : goal.invariant-loop-placed
 invariant-loop-placed g l =
     FitsCap l.sheet.settings.cap (g.C.Curve.cells l.bench.main) (g.C.Curve.cells l.bench.spare) (g.C.Curve.cells l.bench.kept) (vec_len l.bench.cells) (vec_len l.bench.tail) (vec_len l.bench.room)
-    × (length l.places ≡ length l.fn.places)
     × IsPlacing (task_passes l.dir l.sheet) (length l.sheet.tasks) l.placed l.unplaced l.order
