@@ -1,0 +1,10 @@
+pub mod Text
+pub mod Saying
+pub mod Script
+pub mod State
+pub mod Playing
+pub mod Workers
+pub mod Kept
+pub mod Reading
+pub mod Laws
+pub mod Worked

@@ -1,0 +1,4 @@
+pub mod Passing
+pub mod Answer
+pub mod Laws
+pub mod Worked
