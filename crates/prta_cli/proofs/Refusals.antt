@@ -8,11 +8,19 @@ use Rattle.prta_sheet.specs.declared.fault.SheetFault.TheVariants.{TooLong}
 use Rattle.prta_sheet.specs.Sheet.{Sheet}
 use Rattle.prta_sheet.specs.Stated.{sheet_stated}
 use Rattle.prta_report.specs.Trace.{simulate_text}
-use Rattle.prta_report.specs.Analysis.{check_text, failing_job}
+use Rattle.prta_dual.specs.Failing.{failing_job}
+use Rattle.prta_report.specs.Analysis.{check_text}
 use Rattle.prta_report.specs.Certificates.{verify_text, broken_task}
 use Rattle.prta_report.specs.Assignment.{assign_text}
+use Rattle.prta_report.specs.Slacks.{slack_text}
 use Rattle.prta_audsley.specs.Verdict.{verdict}
 use Rattle.prta_writer.specs.Assigning.{is_found}
+use Rattle.prta_session.specs.declared.fault.ScriptFault.{ScriptFault}
+use Rattle.prta_session.specs.declared.fault.ScriptFault.TheVariants as script
+use Rattle.prta_session.specs.declared.script.TheConstants.{SCRIPT_LIMIT}
+use Rattle.prta_session.specs.declared.script.Line.{Line}
+use Rattle.prta_session.specs.Script.{script_fault, script_lines}
+use Rattle.prta_writer.specs.Playing.{session_text, AreAroundAtPrints}
 use Rattle.prta_writer.specs.Meaning.{NumbersHold}
 use Rattle.prta_cli.specs.declared.status.Status.{Status}
 use Rattle.prta_cli.specs.declared.status.Status.TheVariants as status
@@ -23,7 +31,7 @@ use Rattle.prta_certfile.specs.declared.level.CertLevel.{CertLevel}
 use Rattle.prta_certfile.specs.declared.fault.CertFault.{CertFault}
 use Rattle.prta_certfile.specs.declared.fault.CertFault.TheVariants as certificate
 use Rattle.prta_certfile.specs.Reading.{fault_of, levels_of}
-use Rattle.prta_cli.specs.declared.input.InputFault.TheVariants.{Times, Certificate, Counts}
+use Rattle.prta_cli.specs.declared.input.InputFault.TheVariants.{Times, Certificate, Counts, Script}
 use Rattle.prta_sheet.specs.Accepted.{IsAccepted}
 use Rattle.prta_sheet.specs.Canonical.{canonical_text}
 use Rattle.prta_times.specs.Laws.{CountedAreAccepted, ReducedAreAccepted, ReducedAreSafe}
@@ -33,18 +41,18 @@ use Rattle.prta_times.specs.declared.fault.CountsFault.TheVariants as counts
 use Rattle.prta_cli.specs.declared.words.Kept.{Kept}
 use Rattle.prta_cli.specs.declared.words.Kept.TheVariants.{AllTimes, AtMost}
 use Rattle.prta_cli.specs.declared.words.SheetCommand.{SheetCommand}
-use Rattle.prta_cli.specs.declared.words.SheetCommand.TheVariants.{Analyse, AnalyseCsv, Ledger, Check, Certify, Tail, Assign}
+use Rattle.prta_cli.specs.declared.words.SheetCommand.TheVariants.{Analyse, AnalyseCsv, Ledger, Check, Certify, Tail, Assign, Slack}
 use Rattle.prta_cli.specs.declared.words.FilesCommand.{FilesCommand}
-use Rattle.prta_cli.specs.declared.words.FilesCommand.TheVariants.{Verify, Simulate, Import}
+use Rattle.prta_cli.specs.declared.words.FilesCommand.TheVariants.{Verify, Simulate, Session, Import}
 use Rattle.prta_cli.specs.declared.times.TheConstants.{TIMES_LIMIT}
 use Rattle.prta_cli.specs.declared.times.TimesFault.{TimesFault}
 use Rattle.prta_cli.specs.declared.times.TimesFault.TheVariants as times
 use Rattle.prta_cli.specs.Words.{IsInRange, Command, command, of_sheet, of_files, of_seed, sheet_name, second_name}
-use Rattle.prta_cli.specs.Answer.{Answer, Files, answer, answer_to, answer_to_file, answer_to_sheet, answer_to_files, judged, judgement, verification, simulation, counting, kept_fault, sheet_keeping, told, told_no, plain, refused, input_refused, IsSheetOf, IsCertificateOf, IsSheetWith, IsAcceptedFile, sheet_under}
+use Rattle.prta_cli.specs.Answer.{Answer, Files, answer, answer_to, answer_to_file, answer_to_sheet, answer_to_files, judged, judgement, verification, simulation, playing, counting, kept_fault, sheet_keeping, told, told_no, plain, refused, input_refused, IsSheetOf, IsCertificateOf, IsScriptOf, IsSheetWith, IsAcceptedFile, sheet_under}
 use Rattle.prta_cli.specs.Times.{times_in, times_fault}
 use Rattle.prta_cli.specs.Ending.{status_of, IsServed, EndsBy}
 use Rattle.prta_writer.specs.Writing.{Took, TookPart}
-use Rattle.prta_cli.specs.Causes.{HoldsFor, HasFailed, SheetFailed, ReadFailed, IsNoted, IsReadFault, IsSafeKeeping, IsOrNoMemory, IsAfterWords}
+use Rattle.prta_cli.specs.Causes.{HoldsFor, IsShownBy, HasFailed, SheetFailed, ReadFailed, IsNoted, IsReadFault, IsSafeKeeping, IsOrNoMemory, IsAfterWords}
 
 -- what holds for every shelf's files holds for those of one, where it tells them
 pub each_file : (held : Option Files) (P : Files → Type 0) → ((files : Files) → P files) → IfSome held P
@@ -68,6 +76,23 @@ pub counts_too_long : (kept : Kept) (sheet : Sheet) (held : Option (List ℕ)) �
 counts_too_long kept sheet None h = absurd h
 counts_too_long AllTimes sheet (Some bytes) h = let long : nat_lt COUNTS_LIMIT (length bytes) ≡ true = grind (arith, nat_tests) in rw long refl
 counts_too_long (AtMost k) sheet (Some bytes) h = let long : nat_lt COUNTS_LIMIT (length bytes) ≡ true = grind (arith, nat_tests) in rw long refl
+
+pub script_too_long : (sheet : Sheet) (held : Option (List ℕ)) → IsSomeAnd held (λ bytes. SCRIPT_LIMIT < length bytes) → playing sheet held ≡ input_refused (Script script.TooLong)
+script_too_long sheet None h = absurd h
+script_too_long sheet (Some bytes) h = let long : nat_lt SCRIPT_LIMIT (length bytes) ≡ true = grind (arith, nat_tests) in rw long refl
+
+-- the answer to a script by its lines, or by the first fault
+pub of_script : (sheet : Sheet) (held : Option (List ℕ)) (lines : List Line) → IsScriptOf sheet held lines → playing sheet held ≡ told (session_text sheet lines)
+of_script sheet None lines h = absurd h
+of_script sheet (Some bytes) lines h = rw h.0 (ap (λ ls. told (session_text sheet ls)) (sym h.1))
+
+pub of_script_fault : (sheet : Sheet) (bytes : List ℕ) (fault : ScriptFault) → script_fault sheet bytes ≡ Some fault → playing sheet (Some bytes) ≡ input_refused (Script fault)
+of_script_fault sheet bytes fault e = rw e refl
+
+-- what holds at the prints of the lines that are read holds of the held script
+pub held_prints : (sheet : Sheet) (held : Option (List ℕ)) (lines : List Line) → IsScriptOf sheet held lines → AreAroundAtPrints sheet lines → IsShownBy sheet held
+held_prints sheet None lines h hold = absurd h
+held_prints sheet (Some bytes) lines h hold = subst (AreAroundAtPrints sheet) h.1 hold
 
 -- the answer to counts by the sheet that they make, or by the first fault
 pub of_counts : (kept : Kept) (sheet : Sheet) (held : Option (List ℕ)) (made : Sheet) → IsSheetWith kept sheet held made → counting kept sheet held ≡ told (canonical_text made)
@@ -182,6 +207,14 @@ simulation_accepts sheet (Some bytes) = by_fault (times_fault sheet bytes)
     by_fault None = λ e. cc
     by_fault (Some fault) = λ e. cc
 
+playing_accepts : (sheet : Sheet) (held : Option (List ℕ)) → (playing sheet held).status ≢ status.SheetRefused
+playing_accepts sheet None = λ e. cc
+playing_accepts sheet (Some bytes) = by_fault (script_fault sheet bytes)
+  where
+    by_fault : (fault : Option ScriptFault) → (option_map_or (λ fault. input_refused (Script fault)) fault (told (session_text sheet (script_lines sheet bytes)))).status ≢ status.SheetRefused
+    by_fault None = λ e. cc
+    by_fault (Some fault) = λ e. cc
+
 counting_accepts : (kept : Kept) (sheet : Sheet) (held : Option (List ℕ)) → (counting kept sheet held).status ≢ status.SheetRefused
 counting_accepts kept sheet None = λ e. cc
 counting_accepts kept sheet (Some bytes) = by_fault (kept_fault kept sheet bytes)
@@ -198,10 +231,12 @@ sheet_accepts Check sheet = judged_accepts (is_some (failing_job sheet)) (check_
 sheet_accepts Certify sheet = λ e. cc
 sheet_accepts Tail sheet = λ e. cc
 sheet_accepts Assign sheet = judged_accepts (not (is_found (verdict sheet))) (assign_text sheet)
+sheet_accepts Slack sheet = judged_accepts (is_some (failing_job sheet)) (slack_text sheet)
 
 files_accepts : (asked : FilesCommand) (held : Option (List ℕ)) (sheet : Sheet) → (answer_to_files asked sheet held).status ≢ status.SheetRefused
 files_accepts Verify held sheet = verification_accepts sheet held
 files_accepts Simulate held sheet = simulation_accepts sheet held
+files_accepts Session held sheet = playing_accepts sheet held
 files_accepts (Import kept) held sheet = counting_accepts kept sheet held
 
 file_accepts : (answers : Sheet → Answer) → ((sheet : Sheet) → (answers sheet).status ≢ status.SheetRefused) → (held : Option (List ℕ)) → IsAcceptedFile held →

@@ -8,20 +8,25 @@ use Rattle.prta_sheet.specs.Refusal.{refusal}
 use Rattle.prta_certfile.specs.declared.level.CertLevel.{CertLevel}
 use Rattle.prta_certfile.specs.Reading.{fault_of, levels_of}
 use Rattle.prta_sheet.specs.Canonical.{canonical_text}
-use Rattle.prta_report.specs.Analysis.{analyse_text, csv_text, ledger_text, check_text, bench_text, failing_job}
+use Rattle.prta_dual.specs.Failing.{failing_job}
+use Rattle.prta_report.specs.Analysis.{analyse_text, csv_text, ledger_text, check_text, bench_text}
 use Rattle.prta_report.specs.Certificates.{certify_text, verify_text, broken_task}
 use Rattle.prta_report.specs.Tails.{tail_text}
 use Rattle.prta_report.specs.Assignment.{assign_text}
+use Rattle.prta_report.specs.Slacks.{slack_text}
 use Rattle.prta_audsley.specs.Verdict.{verdict}
+use Rattle.prta_session.specs.declared.script.Line.{Line}
+use Rattle.prta_session.specs.Script.{script_fault, script_lines}
 use Rattle.prta_writer.specs.Assigning.{is_found}
+use Rattle.prta_writer.specs.Playing.{session_text}
 use Rattle.prta_cli.specs.declared.status.Status.{Status}
 use Rattle.prta_cli.specs.declared.status.Status.TheVariants.{Done, No, Usage, SheetRefused, InputRefused, ReadFault, WriteFault, NoMemory}
 use Rattle.prta_cli.specs.declared.input.InputFault.{InputFault}
-use Rattle.prta_cli.specs.declared.input.InputFault.TheVariants.{Times, Certificate, Counts}
+use Rattle.prta_cli.specs.declared.input.InputFault.TheVariants.{Times, Certificate, Counts, Script}
 use Rattle.prta_cli.specs.declared.words.SheetCommand.{SheetCommand}
-use Rattle.prta_cli.specs.declared.words.SheetCommand.TheVariants.{Analyse, AnalyseCsv, Ledger, Check, Certify, Tail, Assign}
+use Rattle.prta_cli.specs.declared.words.SheetCommand.TheVariants.{Analyse, AnalyseCsv, Ledger, Check, Certify, Tail, Assign, Slack}
 use Rattle.prta_cli.specs.declared.words.FilesCommand.{FilesCommand}
-use Rattle.prta_cli.specs.declared.words.FilesCommand.TheVariants.{Verify, Simulate, Import}
+use Rattle.prta_cli.specs.declared.words.FilesCommand.TheVariants.{Verify, Simulate, Session, Import}
 use Rattle.prta_cli.specs.declared.words.SeedCommand.{SeedCommand}
 use Rattle.prta_cli.specs.declared.words.SeedCommand.TheVariants.{Generate, Bench}
 use Rattle.prta_cli.specs.Words.{Command, of_sheet, of_files, of_seed, command}
@@ -79,6 +84,10 @@ checking sheet = judged (is_some (failing_job sheet)) (check_text sheet)
 abbrev pub assigning : Sheet → Answer
 assigning sheet = judged (not (is_found (verdict sheet))) (assign_text sheet)
 
+-- to `slack`: no, where the sheet doesn't pass as it is
+abbrev pub slacking : Sheet → Answer
+slacking sheet = judged (is_some (failing_job sheet)) (slack_text sheet)
+
 -- to `simulate`, by the accepted sheet and by what is held under the name of the times
 abbrev pub simulation : Sheet → Option (List ℕ) → Answer
 simulation sheet None = plain ReadFault
@@ -107,6 +116,11 @@ abbrev pub counting : Kept → Sheet → Option (List ℕ) → Answer
 counting kept sheet None = plain ReadFault
 counting kept sheet (Some bytes) = option_map_or (λ fault. input_refused (Counts fault)) (kept_fault kept sheet bytes) (told (canonical_text (sheet_keeping kept sheet bytes)))
 
+-- to `session`, by the accepted sheet and by what is held under the name of the script
+abbrev pub playing : Sheet → Option (List ℕ) → Answer
+playing sheet None = plain ReadFault
+playing sheet (Some bytes) = option_map_or (λ fault. input_refused (Script fault)) (script_fault sheet bytes) (told (session_text sheet (script_lines sheet bytes)))
+
 -- the names of files, and the bytes under them
 abbrev pub Files : Type 0
 Files = List ℕ → Option (List ℕ)
@@ -120,10 +134,12 @@ answer_to_sheet Check sheet = checking sheet
 answer_to_sheet Certify sheet = told (certify_text sheet)
 answer_to_sheet Tail sheet = told (tail_text sheet)
 answer_to_sheet Assign sheet = assigning sheet
+answer_to_sheet Slack sheet = slacking sheet
 
 abbrev pub answer_to_files : FilesCommand → Sheet → Option (List ℕ) → Answer
 answer_to_files Verify sheet held = verification sheet held
 answer_to_files Simulate sheet held = simulation sheet held
+answer_to_files Session sheet held = playing sheet held
 answer_to_files (Import kept) sheet held = counting kept sheet held
 
 -- to what is asked of a generated sheet
@@ -161,6 +177,10 @@ IsCertificateOf sheet held levels = IsSomeAnd held (λ bytes. (fault_of sheet.ta
 -- no condition refuses the bytes that are held as counts for the sheet, and they make the other one
 abbrev pub IsSheetWith : Kept → Sheet → Option (List ℕ) → Sheet → Type 0
 IsSheetWith kept sheet held made = IsSomeAnd held (λ bytes. (kept_fault kept sheet bytes ≡ None) × (made ≡ sheet_keeping kept sheet bytes))
+
+-- no condition refuses the bytes that are held as a script for the sheet, and these are its lines
+abbrev pub IsScriptOf : Sheet → Option (List ℕ) → List Line → Type 0
+IsScriptOf sheet held lines = IsSomeAnd held (λ bytes. (script_fault sheet bytes ≡ None) × (lines ≡ script_lines sheet bytes))
 
 -- no condition refuses the bytes as a sheet
 abbrev pub IsAcceptedFile : Option (List ℕ) → Type 0

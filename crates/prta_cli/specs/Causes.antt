@@ -14,13 +14,16 @@ use Rattle.prta_times.specs.LaterTimes.{IsSafeFor}
 use Rattle.prta_cli.specs.declared.words.Kept.{Kept}
 use Rattle.prta_cli.specs.declared.words.Kept.TheVariants.{AllTimes, AtMost}
 use Rattle.prta_cli.specs.declared.words.SheetCommand.{SheetCommand}
-use Rattle.prta_cli.specs.declared.words.SheetCommand.TheVariants.{Analyse, AnalyseCsv, Ledger, Check, Certify, Tail, Assign}
+use Rattle.prta_cli.specs.declared.words.SheetCommand.TheVariants.{Analyse, AnalyseCsv, Ledger, Check, Certify, Tail, Assign, Slack}
 use Rattle.prta_cli.specs.declared.words.FilesCommand.{FilesCommand}
-use Rattle.prta_cli.specs.declared.words.FilesCommand.TheVariants.{Verify, Simulate, Import}
+use Rattle.prta_cli.specs.declared.words.FilesCommand.TheVariants.{Verify, Simulate, Session, Import}
 use Rattle.prta_cli.specs.Words.{Command, of_sheet, of_files, of_seed, command, sheet_name, second_name}
 use Rattle.prta_cli.specs.Answer.{Files, answer, err_line, sheet_under, IsAcceptedFile}
 use Rattle.prta_writer.specs.Meaning.{AreAround, AreClose, ChancesPass, AreFound, LevelsHold, NumbersHold}
 use Rattle.prta_audsley.specs.Verdict.{VerdictHolds}
+use Rattle.prta_session.specs.Script.{script_lines}
+use Rattle.prta_writer.specs.Slacks.{SlacksSay}
+use Rattle.prta_writer.specs.Playing.{AreAroundAtPrints}
 use Rattle.prta_cli.specs.Refused.{refused_line, input_line}
 
 -- between two lists of the names of a shelf's failed reads the count of a name rose
@@ -62,9 +65,14 @@ IsSafeKeeping (AtMost k) sheet bytes = IsAccepted (reduced_sheet k sheet bytes) 
 abbrev pub IsSafeWith : Kept → Sheet → Option (List ℕ) → Type 0
 IsSafeWith kept sheet held = IsSomeAnd held (IsSafeKeeping kept sheet)
 
+-- the numbers of each print of the held script are around the exact chances
+abbrev pub IsShownBy : Sheet → Option (List ℕ) → Type 0
+IsShownBy sheet held = IsSomeAnd held (λ bytes. AreAroundAtPrints sheet (script_lines sheet bytes))
+
 -- what a run that ended with Done shows of the sheet: of `analyse` and `ledger` that each job's numbers are around its exact chance, and
 -- no further apart than its entries add up to; of `check` that each exact chance passes; of `certify` that what is found for each level
--- is so; of `tail` that the steady numbers of each level hold in every hyperperiod; of `assign` that what the verdict says is so
+-- is so; of `tail` that the steady numbers of each level hold in every hyperperiod; of `assign` that what the verdict says is so; of `slack` that what
+-- the slack of each task says is so, and that each exact chance passes
 abbrev pub IsShownOfSheet : SheetCommand → Sheet → Type 0
 IsShownOfSheet Analyse sheet = AreAround sheet × AreClose sheet
 IsShownOfSheet AnalyseCsv sheet = AreAround sheet × AreClose sheet
@@ -73,13 +81,16 @@ IsShownOfSheet Check sheet = ChancesPass sheet
 IsShownOfSheet Certify sheet = AreFound sheet
 IsShownOfSheet Tail sheet = LevelsHold sheet
 IsShownOfSheet Assign sheet = VerdictHolds sheet
+IsShownOfSheet Slack sheet = SlacksSay sheet × ChancesPass sheet
 
 -- of the sheet with the second file: of `verify` that the steady numbers for each list of the certificate hold in every hyperperiod; of
+-- `session` that at each print each job's numbers are around its exact chance by the sheet as it then is; of
 -- `import` and `reduce` that the sheet whose text is written is an accepted one, and after `reduce` that its exact chances are on the safe
 -- side of what was counted
 abbrev pub IsShownOfFiles : FilesCommand → Sheet → Option (List ℕ) → Type 0
 IsShownOfFiles Verify sheet held = HoldsFor sheet held
 IsShownOfFiles Simulate sheet held = ⊤
+IsShownOfFiles Session sheet held = IsShownBy sheet held
 IsShownOfFiles (Import kept) sheet held = IsSafeWith kept sheet held
 
 -- of the sheet that is stated under the name; of a generated sheet that it is accepted
@@ -88,9 +99,10 @@ IsShown files (of_sheet name asked) = IsSomeAnd (sheet_under files name) (IsShow
 IsShown files (of_files name second asked) = IsSomeAnd (sheet_under files name) (λ sheet. IsShownOfFiles asked sheet (files second))
 IsShown files (of_seed seed tasks asked) = IsAccepted (generated seed tasks)
 
--- what a run that ended with No shows: of `assign` that what the verdict says is so
+-- what a run that ended with No shows: of `assign` that what the verdict says is so, and of `slack` what the slacks say
 abbrev pub IsShownByNoOf : SheetCommand → Sheet → Type 0
 IsShownByNoOf Assign sheet = VerdictHolds sheet
+IsShownByNoOf Slack sheet = SlacksSay sheet
 IsShownByNoOf asked sheet = ⊤
 
 abbrev pub IsShownByNo : Files → Command → Type 0

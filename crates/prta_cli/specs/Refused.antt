@@ -15,6 +15,9 @@ use Rattle.prta_certfile.specs.Reading.{number_of as certificate_number}
 use Rattle.prta_times.specs.declared.fault.CountsFault.{CountsFault}
 use Rattle.prta_times.specs.declared.fault.CountsFault.TheVariants as counts
 use Rattle.prta_times.specs.Counts.{number_of as counts_number}
+use Rattle.prta_session.specs.declared.fault.ScriptFault.{ScriptFault}
+use Rattle.prta_session.specs.declared.fault.ScriptFault.TheVariants as script
+use Rattle.prta_session.specs.Script.{number_of as script_number}
 use Rattle.prta_cli.specs.declared.input.InputFault.{InputFault}
 use Rattle.prta_cli.specs.declared.input.InputFault.TheVariants as input
 
@@ -106,15 +109,26 @@ counts_tail (counts.TotalTooLarge i) = with_value i
 counts_tail (counts.TooMuchWork n) = with_value n
 counts_tail counts.NoMemory = []
 
+-- of a script
+abbrev pub script_tail : ScriptFault → List ℕ
+script_tail script.TooLong = []
+script_tail (script.BadLine n) = with_value n
+script_tail (script.UnknownTask n) = with_value n
+script_tail (script.BadTable n) = with_value n
+script_tail (script.BadEdit n) = with_value n
+script_tail script.NoMemory = []
+
 abbrev pub input_number : InputFault → ℕ
 input_number (input.Times fault) = times_number fault
 input_number (input.Certificate fault) = certificate_number fault
 input_number (input.Counts fault) = counts_number fault
+input_number (input.Script fault) = script_number fault
 
 abbrev pub input_tail : InputFault → List ℕ
 input_tail (input.Times fault) = times_tail fault
 input_tail (input.Certificate fault) = certificate_tail fault
 input_tail (input.Counts fault) = counts_tail fault
+input_tail (input.Script fault) = script_tail fault
 
 unfoldable pub input_line : InputFault → List ℕ
 input_line fault = codes "prta: input refused " ++ decimal (input_number fault) ++ input_tail fault ++ codes "\n"

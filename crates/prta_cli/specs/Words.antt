@@ -8,9 +8,9 @@ use Rattle.prta_words.specs.Words.{are_good, positional_words, flag_count}
 use Rattle.prta_cli.specs.declared.words.Command.{Command as NamedCommand}
 use Rattle.prta_cli.specs.declared.words.Command.TheVariants.{OfSheet, OfFiles, OfSeed}
 use Rattle.prta_cli.specs.declared.words.SheetCommand.{SheetCommand}
-use Rattle.prta_cli.specs.declared.words.SheetCommand.TheVariants.{Analyse, AnalyseCsv, Ledger, Check, Certify, Tail, Assign}
+use Rattle.prta_cli.specs.declared.words.SheetCommand.TheVariants.{Analyse, AnalyseCsv, Ledger, Check, Certify, Tail, Assign, Slack}
 use Rattle.prta_cli.specs.declared.words.FilesCommand.{FilesCommand}
-use Rattle.prta_cli.specs.declared.words.FilesCommand.TheVariants.{Verify, Simulate, Import}
+use Rattle.prta_cli.specs.declared.words.FilesCommand.TheVariants.{Verify, Simulate, Session, Import}
 use Rattle.prta_cli.specs.declared.words.Kept.{Kept}
 use Rattle.prta_cli.specs.declared.words.Kept.TheVariants.{AllTimes, AtMost}
 use Rattle.prta_cli.specs.declared.words.SeedCommand.{SeedCommand}
@@ -79,8 +79,10 @@ command_by word rest =
     else if bytes_eq word (codes "certify") then sheet_command Certify rest
     else if bytes_eq word (codes "tail") then sheet_command Tail rest
     else if bytes_eq word (codes "assign") then sheet_command Assign rest
+    else if bytes_eq word (codes "slack") then sheet_command Slack rest
     else if bytes_eq word (codes "verify") then files_command Verify rest
     else if bytes_eq word (codes "simulate") then files_command Simulate rest
+    else if bytes_eq word (codes "session") then files_command Session rest
     else if bytes_eq word (codes "import") then files_command (Import AllTimes) rest
     else if bytes_eq word (codes "reduce") then reduce_command rest
     else if bytes_eq word (codes "generate") then seed_command Generate rest

@@ -5,18 +5,20 @@ ghost use Rattle.prta_outside.specs.Sink.{HasRisen};
 ghost use Rattle.prta_certfile.specs.Laws.{AreLevels};
 ghost use Rattle.prta_audsley.specs.Verdict.{VerdictHolds};
 ghost use Rattle.prta_cli.specs.declared.status.Status.{Status};
-ghost use Rattle.prta_cli.specs.Answer.{told, checking, assigning, judgement, verification, simulation, counting};
+ghost use Rattle.prta_cli.specs.Answer.{told, checking, assigning, slacking, judgement, verification, simulation, playing, counting};
 ghost use Rattle.prta_cli.specs.Ending.{status_of, line_of, IsServed, EndsBy};
 ghost use Rattle.prta_sheet.specs.Canonical.{canonical_text};
 ghost use Rattle.prta_report.specs.Analysis.{bench_text};
 ghost use Rattle.prta_report.specs.Tails.{tail_text};
 ghost use Rattle.prta_cli.specs.Words.{IsInRange};
 ghost use Rattle.prta_writer.specs.Report.{report_text};
-ghost use Rattle.prta_cli.specs.Causes.{IsAfterWords, IsLine, HoldsFor, IsSafeWith};
+ghost use Rattle.prta_cli.specs.Causes.{IsAfterWords, IsLine, HoldsFor, IsShownBy, IsSafeWith};
+ghost use Rattle.prta_writer.specs.Slacks.{SlacksSay};
 ghost use Rattle.prta_writer.specs.Meaning.{AreAround, AreClose, ChancesPass, AreFound, LevelsHold, NumbersHold};
 
 use crate::counts::sheet_with_counts;
 use crate::ending::Ending;
+use crate::script::script_under;
 use crate::simulation::simulation;
 use crate::verification::certificate_under;
 use crate::words::Kept;
@@ -24,8 +26,8 @@ use prta_certfile::Certificate;
 use prta_outside::{Shelf, Sink};
 use prta_sheet::{Sheet, sheet_text};
 use prta_writer::{
-    Room, What, assignment, put_all, write_bench, write_check, write_report, write_tail,
-    write_verify,
+    Room, Stage, What, assignment, put_all, slack_page, write_bench, write_check, write_report,
+    write_session, write_tail, write_verify,
 };
 use std::alloc::Global;
 
@@ -108,6 +110,28 @@ pub fn assign<O: Sink>(alloc: Global, sheet: &Sheet, out: &mut O) -> Ending
     };
     match put_all(out, page.bytes()) {
         Ok(()) if found => Ending::Done,
+        Ok(()) => Ending::No,
+        Err(_) => Ending::WriteFault,
+    }
+}
+
+/// Writes how many ticks may be added to the times of each task of a sheet.
+pub fn slack<O: Sink>(alloc: Global, sheet: &Sheet, out: &mut O) -> Ending
+    ensures ends { EndsBy result (slacking sheet.now) (O.taken out.old) (O.taken out.new) }
+    ensures say { IsServed (status_of result) → SlacksSay sheet.now }
+    ensures passing { status_of result ≡ Status.Done → ChancesPass sheet.now }
+    ensures write_fault { status_of result ≡ Status.WriteFault → HasRisen (O.faults out.old) (O.faults out.new) }
+    ensures nothing { ¬ IsServed (status_of result) → status_of result ≢ Status.WriteFault → out.new ≡ out.old }
+    ensures ending { IsAfterWords (status_of result) }
+    ensures no_fault { status_of result ≢ Status.ReadFault }
+    ensures line { IsLine (status_of result) (line_of result) }
+{
+    let (page, passes) = match slack_page(alloc, sheet) {
+        Ok(answer) => answer,
+        Err(_) => return Ending::NoMemory,
+    };
+    match put_all(out, page.bytes()) {
+        Ok(()) if passes => Ending::Done,
         Ok(()) => Ending::No,
         Err(_) => Ending::WriteFault,
     }
@@ -253,6 +277,38 @@ pub fn simulate<S: Shelf, O: Sink>(
         Err(ending) => return ending,
     };
     match put_all(out, page.bytes()) {
+        Ok(()) => Ending::Done,
+        Err(_) => Ending::WriteFault,
+    }
+}
+
+/// Writes the text of the script that is held under a name, over a sheet.
+pub fn session<S: Shelf, O: Sink>(
+    alloc: Global,
+    sheet: &Sheet,
+    script: &str,
+    shelf: &mut S,
+    out: &mut O,
+) -> Ending
+    ensures ends { IfSome (S.held shelf.old) (λ files. EndsBy result (playing sheet.now (files script.now)) (O.taken out.old) (O.taken out.new)) }
+    ensures around { status_of result ≡ Status.Done → IfSome (S.held shelf.old) (λ files. IsShownBy sheet.now (files script.now)) }
+    ensures write_fault { status_of result ≡ Status.WriteFault → HasRisen (O.faults out.old) (O.faults out.new) }
+    ensures nothing { ¬ IsServed (status_of result) → status_of result ≢ Status.WriteFault → out.new ≡ out.old }
+    ensures ending { IsAfterWords (status_of result) }
+    ensures fault { status_of result ≡ Status.ReadFault → S.faults shelf.new ≡ S.faults shelf.old ++ script.now ∷ [] }
+    ensures no_fault { status_of result ≢ Status.ReadFault → S.faults shelf.new ≡ S.faults shelf.old }
+    ensures line { IsLine (status_of result) (line_of result) }
+    ensures kept { S.held shelf.new ≡ S.held shelf.old }
+{
+    let script = match script_under(alloc, sheet, script, shelf) {
+        Ok(script) => script,
+        Err(ending) => return ending,
+    };
+    let stage = match Stage::new(alloc, sheet) {
+        Ok(stage) => stage,
+        Err(_) => return Ending::NoMemory,
+    };
+    match write_session(stage, script, out) {
         Ok(()) => Ending::Done,
         Err(_) => Ending::WriteFault,
     }

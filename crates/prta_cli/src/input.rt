@@ -5,7 +5,7 @@ ghost use Rattle.prta_cli.specs.declared.status.Status.{Status};
 ghost use Rattle.prta_cli.specs.Answer.{input_refused};
 ghost use Rattle.prta_cli.specs.Ending.{status_of, line_of, Tells};
 ghost use Rattle.prta_cli.specs.Causes.{IsBeforeOut, IsLine};
-ghost use Rattle.prta_cli.specs.Refused.{input_line, input_number, input_tail, times_tail, certificate_tail, counts_tail};
+ghost use Rattle.prta_cli.specs.Refused.{input_line, input_number, input_tail, times_tail, certificate_tail, counts_tail, script_tail};
 
 use crate::ending::Ending;
 use crate::refused::push_value;
@@ -13,6 +13,7 @@ use crate::times::TimesFault;
 use prta_certfile::CertFault;
 use prta_mass::NoMemory;
 use prta_report::{LINE, Page, push_number};
+use prta_session::ScriptFault;
 use prta_times::CountsFault;
 use std::alloc::Global;
 
@@ -25,6 +26,8 @@ pub enum InputFault {
     Certificate(CertFault),
     /// One on a file of counts.
     Counts(CountsFault),
+    /// One on a script.
+    Script(ScriptFault),
 }
 
 /// The ending for a condition that refuses the file.
@@ -60,6 +63,7 @@ fn input_number(fault: InputFault) -> u64
         InputFault::Times(fault) => fault.number(),
         InputFault::Certificate(fault) => fault.number() as u64,
         InputFault::Counts(fault) => fault.number() as u64,
+        InputFault::Script(fault) => fault.number() as u64,
     }
 }
 
@@ -73,6 +77,7 @@ fn push_tail(page: &mut Page, fault: InputFault)
         InputFault::Times(fault) => push_times_tail(page, fault),
         InputFault::Certificate(fault) => push_certificate_tail(page, fault),
         InputFault::Counts(fault) => push_counts_tail(page, fault),
+        InputFault::Script(fault) => push_script_tail(page, fault),
     }
 }
 
@@ -116,5 +121,19 @@ fn push_counts_tail(page: &mut Page, fault: CountsFault)
         | CountsFault::TooManyPoints(n)
         | CountsFault::TotalTooLarge(n) => push_value(page, n as u64),
         CountsFault::TooMuchWork(work) => push_value(page, work),
+    }
+}
+
+fn push_script_tail(page: &mut Page, fault: ScriptFault)
+    requires { 40 ≤ page.old.spare }
+    ensures written { page.new.written ≡ page.old.written ++ script_tail fault }
+    ensures room { page.old.spare ≤ page.new.spare + 40 }
+{
+    match fault {
+        ScriptFault::TooLong | ScriptFault::NoMemory => {}
+        ScriptFault::BadLine(line)
+        | ScriptFault::UnknownTask(line)
+        | ScriptFault::BadTable(line)
+        | ScriptFault::BadEdit(line) => push_value(page, line as u64),
     }
 }

@@ -8,6 +8,7 @@ mod input;
 mod leave;
 mod refused;
 mod run;
+mod script;
 mod sheet;
 mod simulation;
 mod status;

@@ -12,7 +12,9 @@ ghost use Rattle.prta_cli.specs.Ending.{status_of, line_of, IsServed, EndsBy};
 ghost use Rattle.prta_cli.specs.Causes.{SheetFailed, ReadFailed, IsReadFault, IsShown, IsShownByNo, IsShownOfSheet, IsShownByNoOf, IsShownOfFiles, AnswerIs, IsOrNoMemory, IsAfterWords, IsLine, IsLineFor};
 ghost use Rattle.prta_writer.specs.Writing.{Took, TookPart, TookLine};
 
-use crate::commands::{assign, bench, check, import, report, simulate, tail, verify, write_sheet};
+use crate::commands::{
+    assign, bench, check, import, report, session, simulate, slack, tail, verify, write_sheet,
+};
 use crate::ending::Ending;
 use crate::sheet::sheet_under;
 use crate::status::Status;
@@ -173,6 +175,7 @@ fn of_sheet<O: Sink>(alloc: Global, sheet: &Sheet, asked: SheetCommand, out: &mu
         SheetCommand::Certify => report(alloc, sheet, What::Certify, out),
         SheetCommand::Tail => tail(alloc, sheet, out),
         SheetCommand::Assign => assign(alloc, sheet, out),
+        SheetCommand::Slack => slack(alloc, sheet, out),
     }
 }
 
@@ -227,6 +230,7 @@ fn of_files<S: Shelf, O: Sink>(
     match asked {
         FilesCommand::Verify => verify(alloc, sheet, second, shelf, out),
         FilesCommand::Simulate => simulate(alloc, sheet, second, shelf, out),
+        FilesCommand::Session => session(alloc, sheet, second, shelf, out),
         FilesCommand::Import(kept) => import(alloc, sheet, second, kept, shelf, out),
     }
 }

@@ -4,7 +4,9 @@ mod certificates;
 mod counts;
 mod orders;
 mod reports;
+mod sessions;
 mod sheets;
+mod slacks;
 mod tails;
 mod traces;
 
@@ -18,7 +20,9 @@ use reports::{
     MANY, MANY_END, MANY_LEDGER_END, MANY_LEDGER_START, MANY_START, QUARTER_LEDGER,
     QUARTER_VERDICT, REPORTS, SYSTEM, SYSTEM_LEDGER_END, SYSTEM_LEDGER_START, SYSTEM_TEXT, YES,
 };
+use sessions::{EDITS, PRINTS, SCRIPTS};
 use sheets::{AS_IT_IS, PAIR, QUARTER_TEXT, SHEETS, Text, bytes_of};
+use slacks::{QUARTER_FAILS, SLACKS};
 use std::alloc::Global;
 use std::test::Fail;
 use tails::{FOUR_COUNTS, MIXED, MIXED_TAILS, REDUCED, TAILS, TWO_LEFT};
@@ -62,6 +66,10 @@ const TRACE_WORDS: &[&str] = &["simulate", NAME, SECOND];
 const IMPORT_WORDS: &[&str] = &["import", NAME, SECOND];
 
 const TAIL_WORDS: &[&str] = &["tail", NAME];
+
+const SLACK_WORDS: &[&str] = &["slack", NAME];
+
+const SESSION_WORDS: &[&str] = &["session", NAME, SECOND];
 
 const REDUCE_WORDS: &[&str] = &["reduce", NAME, SECOND, "2"];
 
@@ -159,6 +167,21 @@ const LESSENED: Case = Case {
     ..SERVED
 };
 
+const SLACKENED: Case = Case {
+    words: SLACK_WORDS,
+    status: Status::No,
+    out: QUARTER_FAILS,
+    ..SERVED
+};
+
+const PLAYED: Case = Case {
+    words: SESSION_WORDS,
+    sheet: Text::Given(PAIR),
+    second: Text::Given(EDITS),
+    out: PRINTS,
+    ..SERVED
+};
+
 // No file is read.
 const MADE: Case = Case {
     words: &["generate", "1", "1"],
@@ -213,7 +236,7 @@ const TIMES_REFUSAL: Case = Case {
 };
 
 // Words that are no command.
-static OTHER_COMMANDS: [&[&str]; 41] = [
+static OTHER_COMMANDS: [&[&str]; 45] = [
     &[],
     &["analyse"],
     &["analyze", NAME],
@@ -226,6 +249,10 @@ static OTHER_COMMANDS: [&[&str]; 41] = [
     &["certify"],
     &["certify", NAME, SECOND],
     &["assign"],
+    &["slack"],
+    &["slack", NAME, SECOND],
+    &["session", NAME],
+    &["session", NAME, SECOND, SECOND],
     &["assign", NAME, SECOND],
     &["verify", NAME],
     &["verify", NAME, SECOND, SECOND],
@@ -258,7 +285,7 @@ static OTHER_COMMANDS: [&[&str]; 41] = [
 ];
 
 // Faults of the shelf and faults of the sinks.
-static CASES: [Case; 33] = [
+static CASES: [Case; 36] = [
     SERVED,
     // A name that begins with '-'.
     Case {
@@ -286,6 +313,24 @@ static CASES: [Case; 33] = [
         err_room: 0,
         err: "",
         ..UNREAD
+    },
+    Case {
+        name: "t.toml",
+        failing_read: 0,
+        err_room: 0,
+        err: "",
+        ..UNREAD
+    },
+    Case {
+        words: &["analyse"],
+        err_room: 0,
+        err: "",
+        ..USAGE
+    },
+    Case {
+        err_room: 0,
+        err: "",
+        ..UNWRITTEN
     },
     // Ten bytes a call, and then with a second call that fails.
     Case { most: 10, ..SERVED },
@@ -581,8 +626,85 @@ static LAST_CASES: [Case; 9] = [
     },
 ];
 
+// `slack` and `session`: as they are served, and with faults of the outside.
+static EDIT_CASES: [Case; 12] = [
+    Case {
+        most: 10,
+        err_room: 0,
+        ..SLACKENED
+    },
+    Case {
+        words: SLACK_WORDS,
+        ..UNREAD
+    },
+    Case {
+        words: SLACK_WORDS,
+        out: "prta slack",
+        ..UNWRITTEN
+    },
+    Case {
+        most: 10,
+        failing_read: 3,
+        err_room: 0,
+        ..PLAYED
+    },
+    Case {
+        words: SESSION_WORDS,
+        ..UNREAD
+    },
+    Case {
+        words: SESSION_WORDS,
+        failing_read: 2,
+        ..UNREAD
+    },
+    Case {
+        words: &["session", "t.toml", SECOND],
+        failing_read: 0,
+        ..UNREAD
+    },
+    Case {
+        words: &["session", NAME, "t"],
+        failing_read: 0,
+        ..UNREAD
+    },
+    Case {
+        words: &["session", "--", "-s.toml", SECOND],
+        name: "-s.toml",
+        ..PLAYED
+    },
+    // The sheet is no script.
+    Case {
+        words: &["session", NAME, NAME],
+        status: Status::InputRefused,
+        out: "",
+        err: "prta: input refused 2 value 1\n",
+        ..SERVED
+    },
+    Case {
+        sheet: Text::Given(PAIR),
+        second: Text::Given(EDITS),
+        words: SESSION_WORDS,
+        out: "prta analy",
+        ..UNWRITTEN
+    },
+    // Nothing is put for a script without a print.
+    Case {
+        second: Text::Given(""),
+        room: 0,
+        failing_put: 1,
+        out: "",
+        ..PLAYED
+    },
+];
+
+// Commands with their whole texts.
+static SERVED_CASES: [Case; 14] = [
+    SERVED, RECORDED, LEDGER, CHECKED, PASSED, CERTIFIED, VERIFIED, TRACED, IMPORTED, SUMMED,
+    TAILED, LESSENED, SLACKENED, PLAYED,
+];
+
 // The other commands, with nothing to read but the sheet.
-static OTHER_WORDS: [&[&str]; 10] = [
+static OTHER_WORDS: [&[&str]; 12] = [
     LEDGER_WORDS,
     CHECK_WORDS,
     CERTIFY_WORDS,
@@ -593,6 +715,8 @@ static OTHER_WORDS: [&[&str]; 10] = [
     &["analyse", NAME, "--csv"],
     TAIL_WORDS,
     &["reduce", NAME, "t", "2"],
+    SLACK_WORDS,
+    &["session", NAME, "t"],
 ];
 
 const MANY_ANALYSED: Case = Case {
@@ -677,6 +801,15 @@ fn ends_so(alloc: Global, case: &Case) -> Result<bool, Fail> {
     )
 }
 
+// Whether the command, with an out that takes so many bytes, gives it just so many of its text.
+fn is_cut_off(alloc: Global, served: &Case, room: usize) -> Result<bool, Fail> {
+    let (status, out, err) = run_of(alloc, &Case { room, ..*served })?;
+    Ok(status == Status::WriteFault
+        && out.bytes().len() == room
+        && served.out.as_bytes().starts_with(out.bytes())
+        && err.bytes() == WRITE_FAULT.as_bytes())
+}
+
 // The case with another end: the text on out where the status is Done, else on err.
 fn ending(case: Case, status: Status, text: &'static str) -> Case {
     let (out, err) = match status {
@@ -718,6 +851,14 @@ fn every_newest_case_ends_so(rt: HostRuntime) -> Result<(), Fail> {
 #[test]
 fn every_last_case_ends_so(rt: HostRuntime) -> Result<(), Fail> {
     for (i, case) in LAST_CASES.iter().enumerate() {
+        assert!(rt; ends_so(rt.alloc(), case)?, "case {i}");
+    }
+    Ok(())
+}
+
+#[test]
+fn every_edit_case_ends_so(rt: HostRuntime) -> Result<(), Fail> {
+    for (i, case) in EDIT_CASES.iter().enumerate() {
         assert!(rt; ends_so(rt.alloc(), case)?, "case {i}");
     }
     Ok(())
@@ -806,6 +947,32 @@ fn every_tail_is_found_so(rt: HostRuntime) -> Result<(), Fail> {
             ..TAILED
         };
         assert!(rt; ends_so(rt.alloc(), &case)?, "tail {i}");
+    }
+    Ok(())
+}
+
+#[test]
+fn every_slack_is_found_so(rt: HostRuntime) -> Result<(), Fail> {
+    for (i, (sheet, status, text)) in SLACKS.iter().enumerate() {
+        let case = Case {
+            sheet: *sheet,
+            status: *status,
+            out: text,
+            ..SLACKENED
+        };
+        assert!(rt; ends_so(rt.alloc(), &case)?, "slack {i}");
+    }
+    Ok(())
+}
+
+#[test]
+fn every_script_ends_so(rt: HostRuntime) -> Result<(), Fail> {
+    for (i, (script, status, text)) in SCRIPTS.iter().enumerate() {
+        let case = Case {
+            second: *script,
+            ..ending(PLAYED, *status, text)
+        };
+        assert!(rt; ends_so(rt.alloc(), &case)?, "script {i}");
     }
     Ok(())
 }
@@ -920,16 +1087,9 @@ fn every_seed_ends_so(rt: HostRuntime) -> Result<(), Fail> {
 
 #[test]
 fn a_full_out_has_a_prefix(rt: HostRuntime) -> Result<(), Fail> {
-    for served in [
-        SERVED, RECORDED, LEDGER, CHECKED, PASSED, CERTIFIED, VERIFIED, TRACED, IMPORTED, SUMMED,
-        TAILED, LESSENED,
-    ] {
-        let text = served.out.as_bytes();
-        for room in 0..text.len() {
-            let (status, out, err) = run_of(rt.alloc(), &Case { room, ..served })?;
-            assert!(rt; status == Status::WriteFault, "room {room}");
-            assert!(rt; out.bytes() == &text[..room], "room {room}");
-            assert!(rt; err.bytes() == WRITE_FAULT.as_bytes(), "room {room}");
+    for (i, served) in SERVED_CASES.iter().enumerate() {
+        for room in 0..served.out.len() {
+            assert!(rt; is_cut_off(rt.alloc(), served, room)?, "case {i} room {room}");
         }
     }
     Ok(())

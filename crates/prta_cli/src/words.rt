@@ -20,6 +20,7 @@ pub enum SheetCommand {
     Certify,
     Tail,
     Assign,
+    Slack,
 }
 
 /// What is asked of a sheet with a second file.
@@ -27,6 +28,7 @@ pub enum SheetCommand {
 pub enum FilesCommand {
     Verify,
     Simulate,
+    Session,
     /// `import`, which keeps all times, and `reduce`.
     Import(Kept),
 }
@@ -83,8 +85,10 @@ fn command_by<'a>(alloc: Global, word: &str, rest: &'a [String]) -> Result<Comma
         "certify" => sheet_command(alloc, SheetCommand::Certify, rest),
         "tail" => sheet_command(alloc, SheetCommand::Tail, rest),
         "assign" => sheet_command(alloc, SheetCommand::Assign, rest),
+        "slack" => sheet_command(alloc, SheetCommand::Slack, rest),
         "verify" => files_command(alloc, FilesCommand::Verify, rest),
         "simulate" => files_command(alloc, FilesCommand::Simulate, rest),
+        "session" => files_command(alloc, FilesCommand::Session, rest),
         "import" => files_command(alloc, FilesCommand::Import(Kept::AllTimes), rest),
         "reduce" => reduce_command(alloc, rest),
         "generate" => seed_command(alloc, SeedCommand::Generate, rest),

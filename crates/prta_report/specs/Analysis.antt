@@ -1,8 +1,7 @@
 -- The texts of `analyse`, `ledger`, `check` and `bench`, as functions of a sheet.
-use Rattle.std.specs.Prelude.{ℕ, ◌++◌, Bool, true, false, not, Option, List, length, find, flat_map, sum_by, count_by, codes}
+use Rattle.std.specs.Prelude.{ℕ, ◌++◌, Bool, true, false, List, length, flat_map, sum_by, count_by, codes}
 use Rattle.std.specs.Option.{option_map_or}
-use Rattle.prta_mass.specs.Passing.{passes}
-use Rattle.prta_sheet.specs.Sheet.{Sheet, task_at, sheet_order, hyperperiod}
+use Rattle.prta_sheet.specs.Sheet.{Sheet, sheet_order, hyperperiod}
 use Rattle.prta_sheet.specs.Job.{Job}
 use Rattle.prta_sheet.specs.Counts.{all_jobs}
 use Rattle.prta_backlog.specs.Level.{sheet_level}
@@ -10,6 +9,7 @@ use Rattle.prta_backlog.specs.Room.{own_jobs}
 use Rattle.prta_dual.specs.declared.bounds.Bounds.{Bounds}
 use Rattle.prta_dual.specs.Numbers.{lower, upper}
 use Rattle.prta_dual.specs.Entries.{entries, job_sum}
+use Rattle.prta_dual.specs.Failing.{failing_job}
 use Rattle.prta_certfile.specs.declared.level.CertLevel.{CertLevel}
 use Rattle.prta_certfile.specs.declared.level.CertLevel.TheVariants.{Steps}
 use Rattle.prta_certificate.specs.Levels.{cert_level}
@@ -55,14 +55,7 @@ csv_text sheet = codes "task,job,release,deadline,lower,upper\n" ++ flat_map (cs
 abbrev pub ledger_text : Sheet → List ℕ
 ledger_text sheet = rows_text (codes "prta ledger 1\n") ledger_rows sheet
 
--- the upper number of a job passes its task's allowance
-abbrev pub upper_passes : Sheet → Job → Bool
-upper_passes sheet job = let allow = (task_at sheet.tasks job.task).allow in passes (bounds_in sheet job).upper allow.0 allow.1
-
--- the first analysed job, by task in sheet order and then by number, whose upper number doesn't
-abbrev pub failing_job : Sheet → Option Job
-failing_job sheet = find (λ job. not (upper_passes sheet job)) (flat_map (own_jobs sheet) (sheet_order sheet.tasks))
-
+-- yes, or the first job whose upper number doesn't pass its task's allowance
 abbrev pub check_text : Sheet → List ℕ
 check_text sheet = codes "prta check 1\n" ++ option_map_or (λ job. line_of_no sheet.tasks job (bounds_in sheet job).upper) (failing_job sheet) (codes "yes\n")
 

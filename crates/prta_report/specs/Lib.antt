@@ -4,10 +4,10 @@ pub mod Trace
 pub mod WorkedTraces
 pub mod TraceLaws
 pub mod Analysis
-pub mod AnalysisLaws
 pub mod Certificates
 pub mod WorkedTexts
 pub mod WorkedCertificates
 pub mod Assignment
 pub mod WorkedAssignments
 pub mod Tails
+pub mod Slacks

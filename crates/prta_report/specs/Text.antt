@@ -64,13 +64,24 @@ gap_line name number bounds sum =
 abbrev pub line_of_gap : List Task → Job → Bounds → ℕ → List ℕ
 line_of_gap tasks job bounds sum = gap_line (task_at tasks job.task).name job.number bounds sum
 
--- a job whose upper number doesn't pass its task's allowance
-unfoldable pub no_line : List ℕ → ℕ → ℕ → ℕ × ℕ → List ℕ
-no_line name number upper allow =
-    codes "no " ++ name ++ codes " " ++ decimal number ++ codes " upper " ++ decimal upper ++ codes " allow " ++ decimal allow.0 ++ codes " " ++ decimal allow.1 ++ codes "\n"
+-- a word, a job whose upper number doesn't pass its task's allowance, that number, and the allowance
+unfoldable pub failing_line : List ℕ → List ℕ → ℕ → ℕ → ℕ × ℕ → List ℕ
+failing_line word name number upper allow =
+    word ++ codes " " ++ name ++ codes " " ++ decimal number ++ codes " upper " ++ decimal upper ++ codes " allow " ++ decimal allow.0 ++ codes " " ++ decimal allow.1 ++ codes "\n"
 
+abbrev pub line_of_failing : List ℕ → List Task → Job → ℕ → List ℕ
+line_of_failing word tasks job upper = let task = task_at tasks job.task in failing_line word task.name job.number upper task.allow
+
+-- in the texts of `check` and of `slack`
 abbrev pub line_of_no : List Task → Job → ℕ → List ℕ
-line_of_no tasks job upper = let task = task_at tasks job.task in no_line task.name job.number upper task.allow
+line_of_no = line_of_failing (codes "no")
+
+abbrev pub line_of_fails : List Task → Job → ℕ → List ℕ
+line_of_fails = line_of_failing (codes "fails")
+
+-- how many ticks may be added to the times of a task, after a word
+unfoldable pub ticks_line : List ℕ → List ℕ → ℕ → List ℕ
+ticks_line word name ticks = word ++ codes " " ++ name ++ codes " " ++ decimal ticks ++ codes "\n"
 
 -- how much an analysis of a whole sheet is
 unfoldable pub size_line : ℕ → ℕ → ℕ → ℕ → List ℕ

@@ -6,7 +6,7 @@ ghost use Rattle.prta_mass.specs.Decimal.{decimal_below, decimal_above};
 ghost use Rattle.prta_sheet.specs.Sheet.{hyperperiod};
 ghost use Rattle.prta_sheet.specs.Job.{nth_job};
 ghost use Rattle.prta_sheet.specs.Counts.{all_jobs};
-ghost use Rattle.prta_report.specs.Text.{count_line, job_line, csv_line, record_of_job, entry_line, gap_line, no_line, dir_text, kind_text, line_of_job, line_of_entry, line_of_gap, line_of_no};
+ghost use Rattle.prta_report.specs.Text.{count_line, job_line, csv_line, record_of_job, entry_line, gap_line, failing_line, dir_text, kind_text, line_of_job, line_of_entry, line_of_gap, line_of_no, line_of_fails};
 
 use crate::number::{push_number, push_sum};
 use crate::page::{LINE, Page};
@@ -254,7 +254,7 @@ fn push_gap(page: &mut Page, name: &str, number: u32, bounds: Bounds, sum: u128)
     page.push(b"\n");
 }
 
-/// Appends the line of a job whose upper number, in units of 2^-60, doesn't pass its task's allowance.
+/// Appends the line of a job whose upper number, in units of 2^-60, doesn't pass its task's allowance, in the text of `check`.
 pub fn no_line(page: &mut Page, sheet: &Sheet, task: usize, number: u32, upper: u64)
     requires room { LINE ≤ page.old.spare }
     requires task { task < length sheet.now.tasks }
@@ -263,18 +263,32 @@ pub fn no_line(page: &mut Page, sheet: &Sheet, task: usize, number: u32, upper: 
     ensures size { length page.new.written + page.new.spare ≡ length page.old.written + page.old.spare }
 {
     let task = &sheet.tasks()[task];
-    push_no(page, task.name(), number, upper, task.allow());
+    push_failing(page, "no", task.name(), number, upper, task.allow());
 }
 
-#[tactic(auto, unfolding(crate::specs::Text::no_line))]
-fn push_no(page: &mut Page, name: &str, number: u32, upper: u64, allow: (u64, u64))
+/// Appends such a line in the text of `slack`.
+pub fn fails_line(page: &mut Page, sheet: &Sheet, task: usize, number: u32, upper: u64)
     requires room { LINE ≤ page.old.spare }
-    requires name { length name.now ≤ 24 }
-    ensures written { page.new.written ≡ page.old.written ++ no_line name.now number upper allow }
+    requires task { task < length sheet.now.tasks }
+    ensures written { page.new.written ≡ page.old.written ++ line_of_fails sheet.now.tasks (nth_job sheet.now.tasks task number) upper }
     ensures room { page.old.spare ≤ page.new.spare + LINE }
     ensures size { length page.new.written + page.new.spare ≡ length page.old.written + page.old.spare }
 {
-    page.push(b"no ");
+    let task = &sheet.tasks()[task];
+    push_failing(page, "fails", task.name(), number, upper, task.allow());
+}
+
+#[tactic(auto, unfolding(crate::specs::Text::failing_line))]
+fn push_failing(page: &mut Page, word: &str, name: &str, number: u32, upper: u64, allow: (u64, u64))
+    requires room { LINE ≤ page.old.spare }
+    requires word { length word.now ≤ 8 }
+    requires name { length name.now ≤ 24 }
+    ensures written { page.new.written ≡ page.old.written ++ failing_line word.now name.now number upper allow }
+    ensures room { page.old.spare ≤ page.new.spare + LINE }
+    ensures size { length page.new.written + page.new.spare ≡ length page.old.written + page.old.spare }
+{
+    page.push(word.as_bytes());
+    page.push(b" ");
     page.push(name.as_bytes());
     page.push(b" ");
     push_number(page, number as u64);

@@ -3,7 +3,6 @@
 ghost use Rattle.std.specs.Prelude.{◌≡◌};
 ghost use Rattle.prta_report.specs.TraceLaws.{RunsAreLongest, TraceTellsMisses};
 ghost use Rattle.prta_report.specs.WorkedTraces.{WorkedTraces};
-ghost use Rattle.prta_report.specs.AnalysisLaws.{OwnJobsInTurn};
 ghost use Rattle.prta_report.specs.Certificates.{CertifyWritesCertificate};
 ghost use Rattle.prta_report.specs.WorkedTexts.{WorkedTexts};
 ghost use Rattle.prta_report.specs.WorkedCertificates.{WorkedCertificateTexts};
@@ -33,11 +32,6 @@ pub fn trace_tells_misses()
 {
     finishes_tell_misses();
 }
-
-/// The analysed jobs of a task, in their order, are its jobs of the numbers from 0 on.
-pub fn own_jobs_in_turn()
-    ensures { OwnJobsInTurn }
-{}
 
 /// The texts of `analyse`, `ledger`, `check` and `bench` for small sheets: numbers that are exact, rounded and delayed, and an upper
 /// number at its task's allowance and past it.

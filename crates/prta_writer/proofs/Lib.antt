@@ -1,4 +1,5 @@
 pub mod Taking
+pub mod Sessions
 pub mod RowsInTurn
 pub mod Runs
 pub mod Standing

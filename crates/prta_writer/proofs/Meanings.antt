@@ -18,8 +18,9 @@ use Rattle.prta_response.specs.Laws.{NumbersAreAround}
 use Rattle.prta_dual.specs.Laws.{GapIsNoted}
 use Rattle.prta_backlog.specs.Level.{sheet_level}
 use Rattle.prta_certificate.proofs.SheetLevels.{own_order_fits}
-use Rattle.prta_report.specs.Analysis.{bounds_in, sum_in, upper_passes, failing_job}
-use Rattle.prta_report.specs.AnalysisLaws.{OwnJobsInTurn}
+use Rattle.prta_dual.specs.Failing.{upper_passes, failing_job}
+use Rattle.prta_report.specs.Analysis.{bounds_in, sum_in}
+use Rattle.prta_dual.specs.Laws.{OwnJobsInTurn}
 use Rattle.prta_writer.specs.Meaning.{AreAround, AreClose, ChancesPass}
 use Rattle.prta_writer.proofs.Finding.{none_passes, none_in_each}
 

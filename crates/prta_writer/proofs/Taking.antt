@@ -71,3 +71,18 @@ part_then a b c t p h k = (
   omega (arith, ap length h.rest, length-append h.put p, k.1),
   took_both a b c h.put (take k.0 p) h.took k.2 ∙ ap (λ x. option_map (λ taken. taken ++ x) a) (sym (take-append-add h.put p k.0) ∙ ap (take (length h.put + k.0)) h.rest),
 )
+
+-- ---- texts that go on
+
+module _ (a b c : Option (List ℕ)) (start text page : List ℕ) (so_far : TookAllBut a b (start ++ text) page) where
+  -- more was written
+  pub then_written : (more now : List ℕ) → TookAllBut b c (page ++ more) now → TookAllBut a c (start ++ (text ++ more)) now
+  then_written more now k = subst (λ t. TookAllBut a c t now) (append_assoc start text more) (more_put a b c _ (page ++ more) now (longer a b (start ++ text) page more so_far) k)
+
+  -- or a part of it
+  pub then_part : (more : List ℕ) → TookPart b c (page ++ more) → TookPart a c (start ++ (text ++ more))
+  then_part more k = subst (λ t. TookPart a c t) (append_assoc start text more) (part_then a b c _ (page ++ more) (longer a b (start ++ text) page more so_far) k)
+
+-- room was made, and then a line was pushed
+pub line_written : (b c : Option (List ℕ)) (page made now line : List ℕ) → TookAllBut b c page made → now ≡ made ++ line → TookAllBut b c (page ++ line) now
+line_written b c page made now line k e = subst (λ t. TookAllBut b c (page ++ line) t) (sym e) (longer b c page made line k)

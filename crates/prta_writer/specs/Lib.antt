@@ -2,10 +2,11 @@ pub mod Writing
 pub mod Rows
 pub mod Curves
 pub mod Report
-pub mod Checking
 pub mod Levels
 pub mod Verifying
 pub mod Steadiness
 pub mod Meaning
 pub mod Assigning
+pub mod Slacks
+pub mod Playing
 pub mod Amounts

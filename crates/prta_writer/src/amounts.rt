@@ -20,9 +20,9 @@ use crate::rows::analyse;
 use prta_backlog::Bench;
 use prta_certificate::{Verdict, find};
 use prta_dist::{Curve, Kernel};
-use prta_dual::Bounds;
+use prta_dual::{Bounds, own_jobs_in_turn};
 use prta_outside::{Sink, SinkFault};
-use prta_report::{LINE, Page, own_jobs_in_turn, size_line, sums_line};
+use prta_report::{LINE, Page, size_line, sums_line};
 use prta_sheet::Sheet;
 
 /// Writes how many tasks, analysed jobs, entries and levels with a certificate a sheet has, and the sums of all its numbers.

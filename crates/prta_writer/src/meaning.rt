@@ -1,16 +1,15 @@
 //! What the numbers of a sheet mean: the laws of the analysis, for the sheet's own order of priorities.
 
 ghost use Rattle.std.specs.Prelude.{◌≡◌, None, length, All};
-ghost use Rattle.prta_report.specs.Analysis.{failing_job};
+ghost use Rattle.prta_dual.specs.Failing.{failing_job};
 ghost use Rattle.prta_report.specs.Certificates.{broken_task};
 ghost use Rattle.prta_writer.specs.Meaning.{AreAround, AreClose, ChancesPass, AreFound, LevelsHold, NumbersHold};
 ghost use Rattle.prta_certfile.specs.Laws.{AreLevels};
 
 use prta_certfile::{Certificate, steps_are_lists};
 use prta_certificate::{levels_are_found, steady_numbers_hold, test_certifies, verdicts_say};
-use prta_dual::gap_is_noted;
+use prta_dual::{gap_is_noted, own_jobs_in_turn};
 use prta_jobs::jobs_are_before;
-use prta_report::own_jobs_in_turn;
 use prta_response::numbers_are_around;
 use prta_sheet::Sheet;
 use prta_tail::{backlogs_have_tails, tail_numbers_hold};

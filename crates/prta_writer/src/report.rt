@@ -15,7 +15,7 @@ use crate::levels::put_level;
 use crate::meaning::{what_levels_are, what_numbers_mean};
 use crate::output::{make_room, put_all};
 use crate::room::{Desk, Room};
-use crate::rows::{JobLine, analyse, put_gap_rows, put_job_rows};
+use crate::rows::{JobLine, analyse, analyse_numbers, put_gap_rows, put_job_rows};
 use prta_backlog::Bench;
 use prta_dist::{Curve, Kernel};
 use prta_outside::{Sink, SinkFault};
@@ -182,11 +182,11 @@ fn put_task<C: Curve, K: Kernel, O: Sink>(
 {
     match what {
         What::Analyse => {
-            analyse(bench, desk, sheet, task);
+            analyse_numbers(bench, sheet, task, &mut desk.bounds);
             put_job_rows(desk, sheet, task, JobLine::Numbers, out)
         }
         What::AnalyseCsv => {
-            analyse(bench, desk, sheet, task);
+            analyse_numbers(bench, sheet, task, &mut desk.bounds);
             put_job_rows(desk, sheet, task, JobLine::Record, out)
         }
         What::Ledger => {

@@ -15,7 +15,7 @@ use std::alloc::Global;
 use std::marker::Model;
 
 // How many bytes are put at a time, about.
-const PAGE: usize = 65_536;
+pub(crate) const PAGE: usize = 65_536;
 
 /// Room for the reports of a sheet: once it is made, a whole analysis takes no memory. It is seen as the cells of a list of
 /// chances and how that is kept, the entries of a ledger, and the jobs of one task.

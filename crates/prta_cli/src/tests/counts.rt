@@ -35,7 +35,7 @@ pub const ONE_MORE: &str = "task,time,weight\n\
     A,23,1\nA,24,1\nA,25,1\nA,26,1\nA,27,1\nA,28,1\nA,29,1\nA,30,1\nA,31,1\nA,32,1\nA,33,1\n";
 
 // A sheet, a file of counts, the status, and the text: on out where the status is Done, else on err.
-pub static MEASURED: [(Text, Text, Status, &str); 19] = [
+pub static MEASURED: [(Text, Text, Status, &str); 20] = [
     (ONCE, Text::Given(COUNTS), Status::Done, COUNTED),
     // A byte order mark, quotes, carriage returns, an empty line, and no end of the last line.
     (
@@ -71,7 +71,13 @@ pub static MEASURED: [(Text, Text, Status, &str); 19] = [
     ),
     (
         ONCE,
-        Text::Ones(524_289, ""),
+        Text::Ones(524_288, ""),
+        Status::InputRefused,
+        "prta: input refused 2\n",
+    ),
+    (
+        ONCE,
+        Text::Ones(524_288, "1"),
         Status::InputRefused,
         "prta: input refused 1\n",
     ),

@@ -47,7 +47,7 @@ pub const CYCLE: &str =
     "format = 2\n[[task]]\nname = \"A\"\nperiod = 5\ndeadline = 5\ncycle = [[[3, 1], [6, 1]], [[2, 1]]]\n";
 
 // A sheet, the status, and the text: on out where the status is Done, else on err.
-pub static SHEETS: [(Text, Status, &str); 73] = [
+pub static SHEETS: [(Text, Status, &str); 76] = [
     (AS_IT_IS, Status::Done, QUARTER_TEXT),
     // The same sheet in other spellings, and with what counts anyway.
     (
@@ -389,6 +389,11 @@ pub static SHEETS: [(Text, Status, &str); 73] = [
         "prta: sheet refused 6 at task 0 key allow\n",
     ),
     (
+        Text::Changed("period", "offset = -1\nperiod"),
+        Status::SheetRefused,
+        "prta: sheet refused 7 at task 0 key offset\n",
+    ),
+    (
         Text::Changed(
             "format = 1\n[[task]]",
             "format = 1\nturns = -1\nsupport = { fine = -1, step = 1 }\n[[task]]\noffset = -1",
@@ -411,6 +416,16 @@ pub static SHEETS: [(Text, Status, &str); 73] = [
         Text::Given("format = 1\n[[task]\n"),
         Status::SheetRefused,
         "prta: sheet refused 2\n",
+    ),
+    (
+        Text::Given("format = 1\n"),
+        Status::SheetRefused,
+        "prta: sheet refused 5 at top key task\n",
+    ),
+    (
+        Text::Given("format = 1\ntask = 3\n"),
+        Status::SheetRefused,
+        "prta: sheet refused 6 at top key task\n",
     ),
     (
         Text::Given(

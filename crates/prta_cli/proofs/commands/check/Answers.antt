@@ -1,5 +1,6 @@
 use Rattle.std.proofs.Common.{◌≡◌, true, false, is_none, sym, ◌∙◌, subst}
-use Rattle.prta_report.specs.Analysis.{check_text, failing_job}
+use Rattle.prta_dual.specs.Failing.{failing_job}
+use Rattle.prta_report.specs.Analysis.{check_text}
 use Rattle.prta_cli.specs.Ending.{EndsBy}
 use Rattle.prta_cli.specs.declared.ending.Ending.TheVariants.{Done, No}
 use Rattle.prta_cli.proofs.Refusals.{ends_done, ends_no, yes_is, no_is}

@@ -1,12 +1,11 @@
-use Rattle.std.proofs.Common.{◌≡◌, ℕ, ◌+◌, ◌-◌, ◌≤◌, ◌++◌, Bool, false, nat_lt, unwrap_or, List, [], take, drop, length, ap, ap₂, sym, ◌∙◌, subst, arith}
+use Rattle.std.proofs.Common.{◌≡◌, ℕ, ◌+◌, ◌≤◌, ◌++◌, Bool, take, drop, List, Option, length, ap, sym, ◌∙◌, subst}
 use Rattle.std.proofs.Math.Path.{fun_ext}
 use Rattle.std.proofs.Math.Seq.{take-append_seam}
-use Rattle.std.proofs.lemmas.Bool.{le-ltb}
 use Rattle.prta_sheet.specs.Sheet.{Sheet}
 use Rattle.prta_ledger.specs.declared.entry.Entry.{Entry}
+use Rattle.prta_ledger.specs.Noted.{appended}
 use Rattle.prta_backlog.specs.Level.{Level, sheet_level}
 use Rattle.prta_backlog.specs.Pass.{level_of}
-use Rattle.prta_backlog.specs.Room.{room_for}
 use Rattle.prta_dual.specs.declared.bounds.Bounds.{Bounds}
 use Rattle.prta_dual.specs.Numbers.{all_bounds}
 use Rattle.prta_dual.specs.Entries.{entries}
@@ -19,12 +18,6 @@ use Rattle.prta_writer.proofs.rows.analyse_into.Goals.{After-analyse_task}
 level_is : (g : given.Over) (c : After-analyse_task g) → level_of c.below-higher.result c.args.task ≡ sheet_level c.args.task
 level_is g c = ap (λ (higher : ℕ → Bool). record { higher = higher; own = c.args.task }) (fun_ext c.below-higher.ensures.members)
 
-noted : (g : given.Over) (c : After-analyse_task g) → c.analyse_task.new.notes.entries ≡ entries c.args.sheet.now (sheet_level c.args.task)
-noted g c =
-    let all : c.analyse_task.new.notes.entries ≡ c.args.ledger.now.entries ++ entries c.args.sheet.now (level_of c.below-higher.result c.args.task) =
-    ap (λ noted. unwrap_or noted []) c.analyse_task.ensures.noted in
-    all ∙ ap₂ (λ (before : List Entry) (level : Level). before ++ entries c.args.sheet.now level) c.requires.entries (level_is g c)
-
 pub returns-clause-numbers : goal.returns-clause-numbers
 returns-clause-numbers g c =
     let sheet : Sheet = c.args.sheet.now in
@@ -35,17 +28,10 @@ returns-clause-numbers g c =
     ∙ take-append_seam c.analyse_task.new.found rest ∙ found
 
 pub returns-clause-noted : goal.returns-clause-noted
-returns-clause-noted g c = noted g (goal.at.returns-clause-noted g c).After-analyse_task
+returns-clause-noted g c =
+    c.analyse_task.ensures.noted ∙ ap (λ (level : Level). appended (g.N.Notes.noted c.args.notes.now) (entries c.args.sheet.now level)) (level_is g (goal.at.returns-clause-noted g c).After-analyse_task)
 
 pub returns-clause-room : goal.returns-clause-room
 returns-clause-room g c =
-    let at = (goal.at.returns-clause-room g c).After-analyse_task in
-    let sheet : Sheet = c.args.sheet.now in
-    let more : ℕ = length (entries sheet (sheet_level c.args.task)) in
-    let room : c.args.ledger.now.room - length c.args.ledger.now.entries ≤ (c.analyse_task.new.notes.room - length c.analyse_task.new.notes.entries) + more =
-    subst (λ (level : Level). c.args.ledger.now.room - length c.args.ledger.now.entries ≤ (c.analyse_task.new.notes.room - length c.analyse_task.new.notes.entries) + length (entries sheet level)) (level_is g at) c.analyse_task.ensures.room in
-    let enough : more + 26 ≤ room_for sheet = c.entries_have_room.ensures sheet (sheet_level c.args.task) c.tasks-tasks.ensures.accepted c.requires.task apart in
-    omega (arith, room, enough, c.requires.room, ap length c.requires.entries, ap length (noted g at))
-  where
-    apart : nat_lt c.args.task c.args.task ≡ false
-    apart = le-ltb c.args.task c.args.task (omega arith)
+    subst (λ (level : Level). g.N.Notes.room c.args.notes.now ≤ g.N.Notes.room c.analyse_task.new.notes + length (entries c.args.sheet.now level))
+    (level_is g (goal.at.returns-clause-room g c).After-analyse_task) c.analyse_task.ensures.room

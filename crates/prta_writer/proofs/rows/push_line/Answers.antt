@@ -9,7 +9,7 @@ use Rattle.prta_dual.specs.Entries.{job_sum}
 use Rattle.prta_report.specs.Text.{line_of_job, record_of_job, line_of_gap}
 use Rattle.prta_backlog.specs.Level.{sheet_level}
 use Rattle.prta_writer.specs.declared.rows.JobLine.{JobLine}
-use Rattle.prta_writer.specs.Rows.{line_at}
+use Rattle.prta_writer.specs.Rows.{line_at, HasEntries}
 use Rattle.prta_writer.proofs.RowsInTurn.{low_bounds}
 use Rattle.prta_writer.proofs.rows.push_line.Goals as goal
 
@@ -37,7 +37,7 @@ pub returns-in-Gap-clause-written : goal.returns-in-Gap-clause-written
 returns-in-Gap-clause-written c =
     let sheet : Sheet = c.args.sheet.now in
     let sum : c.sum_for-sum.result ≡ job_sum sheet (sheet_level c.args.task) (nth_job sheet.tasks c.args.task c.args.number) =
-    c.sum_for-sum.ensures ∙ ap (λ es. sum_for c.args.task c.args.number es) c.requires.entries in
+    c.sum_for-sum.ensures ∙ ap (λ es. sum_for c.args.task c.args.number es) (subst (λ (line : JobLine). HasEntries line sheet c.args.task) c.in-Gap.is c.requires.entries) in
     c.gap_line.ensures.written
     ∙ ap (λ (b : Bounds). c.args.page.now.written ++ line_of_gap sheet.tasks (nth_job sheet.tasks c.args.task c.args.number) b c.sum_for-sum.result) c.requires.numbers
     ∙ ap (λ (s : ℕ). c.args.page.now.written ++ line_of_gap sheet.tasks (nth_job sheet.tasks c.args.task c.args.number) (bounds_of sheet (sheet_level c.args.task) c.args.number) s) sum

@@ -1,5 +1,0 @@
-use Rattle.prta_report.proofs.OwnJobs.{own_jobs_in_turn}
-use Rattle.prta_report.proofs.model.own_jobs_in_turn.Goals as goal
-
-pub returns : goal.returns
-returns c = own_jobs_in_turn
