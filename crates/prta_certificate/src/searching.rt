@@ -12,10 +12,10 @@ ghost use Rattle.prta_certificate.specs.Candidates.{image_of_point, lowered, sla
 ghost use Rattle.prta_certificate.specs.Search.{ImagesTried, LoweredTried};
 ghost use Rattle.prta_certificate.specs.Verdict.{Says};
 
-use crate::checking::check;
+use crate::checking::go_on;
 use crate::laws::{search_decides, verdicts_say};
 use crate::verdict::Verdict;
-use prta_backlog::{Bench, greatest_work, image, peak, worst_backlog};
+use prta_backlog::{Bench, greatest_work, peak, worst_backlog};
 use prta_dist::{Curve, Kernel};
 use prta_jobs::TaskSet;
 use prta_mass::UNIT;
@@ -69,10 +69,10 @@ fn first_image<C: Curve, K: Kernel>(
     let turns = sheet.settings().turns;
     start_at_point(bench);
     for turn in 0..turns {
-        if is_certified(bench, sheet, task) {
+        if was_certified(bench, sheet, task) {
+            bench.take_back();
             return Some(turn);
         }
-        go_on(bench, sheet, task);
     }
     if is_certified(bench, sheet, task) {
         Some(turns)
@@ -91,15 +91,24 @@ fn start_at_point<C: Curve, K: Kernel>(bench: &mut Bench<C, K>)
     bench.main.point(0);
 }
 
-// Makes the main curve its image on the level.
-fn go_on<C: Curve, K: Kernel>(bench: &mut Bench<C, K>, sheet: &Sheet, task: usize)
+// Makes the main curve its image on the level, and says whether the list that was there, which is on the kept curve then,
+// certifies it.
+fn was_certified<C: Curve, K: Kernel>(bench: &mut Bench<C, K>, sheet: &Sheet, task: usize) -> bool
     requires task { task < length sheet.now.tasks }
+    requires fits { FitsCap sheet.now.settings.cap (C.cells bench.old.main) (C.cells bench.old.spare) (C.cells bench.old.kept)
+        (vec_len bench.old.cells) (vec_len bench.old.tail) (vec_len bench.old.room) }
+    ensures test { result ≡ certifies sheet.now.tasks (sheet_level task) (C.cells bench.old.main) }
     ensures main { C.cells bench.new.main ≡ next_image sheet.now.tasks (sheet_level task) (C.cells bench.old.main) }
-    ensures cap { length (C.cells bench.new.main) ≡ length (C.cells bench.old.main) }
-    ensures others { bench.new ≡ record bench.old { main = bench.new.main } }
+    ensures kept { C.cells bench.new.kept ≡ C.cells bench.old.main }
+    ensures spare { C.cells bench.new.spare ≡ C.cells bench.old.spare }
+    ensures fits { FitsCap sheet.now.settings.cap (C.cells bench.new.main) (C.cells bench.new.spare) (C.cells bench.new.kept)
+        (vec_len bench.new.cells) (vec_len bench.new.tail) (vec_len bench.new.room) }
 {
-    let _tasks = sheet.tasks();
-    image(bench, sheet, TaskSet::below(task), task);
+    // past the last cell
+    let end = bench.main.cap();
+    let whole = bench.main.at(end) == UNIT;
+    let found = go_on(bench, sheet, task);
+    whole && found.is_none()
 }
 
 // The first of the sixteen numbers that, taken off the main curve below the worst-case backlog, makes it certify the level; so
@@ -168,7 +177,7 @@ fn is_certified<C: Curve, K: Kernel>(bench: &mut Bench<C, K>, sheet: &Sheet, tas
     ensures fits { FitsCap sheet.now.settings.cap (C.cells bench.new.main) (C.cells bench.new.spare) (C.cells bench.new.kept)
         (vec_len bench.new.cells) (vec_len bench.new.tail) (vec_len bench.new.room) }
 {
-    // past the last cell
-    let end = bench.main.cap();
-    bench.main.at(end) == UNIT && check(bench, sheet, task).is_none()
+    let certified = was_certified(bench, sheet, task);
+    bench.take_back();
+    certified
 }

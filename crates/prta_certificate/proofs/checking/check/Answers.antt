@@ -1,36 +1,7 @@
--- The main curve is the image of the kept one, which is as the main curve was.
-use Rattle.std.proofs.Common.{◌≡◌, refl, ap₂, sym, ◌∙◌, subst}
-use Rattle.prta_mass.specs.Chances.{Dominates}
-use Rattle.prta_dist.specs.Curve.{first_break}
-use Rattle.prta_backlog.specs.Level.{sheet_level}
-use Rattle.prta_certificate.specs.Certificate.{next_image}
-use Rattle.prta_certificate.proofs.SheetLevels.{level_below}
-use Rattle.prta_certificate.proofs.checking.check.Given as given
 use Rattle.prta_certificate.proofs.checking.check.Goals as goal
-use Rattle.prta_certificate.proofs.checking.check.Goals.{After-kept_break-found}
-
-kept_is : (g : given.Over) (c : After-kept_break-found g) → g.C.Curve.cells c.image.new.bench.kept ≡ g.C.Curve.cells c.args.bench.now.main
-kept_is g c = rw c.image.ensures.others c.keep.ensures.kept
-
-main_is : (g : given.Over) (c : After-kept_break-found g) → g.C.Curve.cells c.image.new.bench.main ≡ next_image c.args.sheet.now.tasks (sheet_level c.args.task) (g.C.Curve.cells c.args.bench.now.main)
-main_is g c =
-    let same : g.C.Curve.cells c.keep.new.self.main ≡ g.C.Curve.cells c.args.bench.now.main = rw c.keep.ensures.others refl in
-    c.image.ensures.image ∙ ap₂ (next_image c.args.sheet.now.tasks) (level_below c.below.result c.args.task c.below.ensures.members) same
-
-pub returns-clause-first : goal.returns-clause-first
-returns-clause-first g c =
-    let at = (goal.at.returns-clause-first g c).After-kept_break-found in
-    c.kept_break-found.ensures.first ∙ ap₂ first_break (kept_is g at) (main_is g at)
 
 pub returns-clause-none : goal.returns-clause-none
-returns-clause-none g c =
-    let at = (goal.at.returns-clause-none g c).After-kept_break-found in (
-      λ none. record {
-        whole = c.requires.whole;
-        dominates = subst (λ cells. Dominates cells (next_image c.args.sheet.now.tasks (sheet_level c.args.task) (g.C.Curve.cells c.args.bench.now.main))) (kept_is g at)
-            (subst (Dominates (g.C.Curve.cells c.image.new.bench.kept)) (main_is g at) (c.kept_break-found.ensures.none.0 none));
-      },
-      λ certified. c.kept_break-found.ensures.none.1
-          (subst (Dominates (g.C.Curve.cells c.image.new.bench.kept)) (sym (main_is g at))
-          (subst (λ cells. Dominates cells (next_image c.args.sheet.now.tasks (sheet_level c.args.task) (g.C.Curve.cells c.args.bench.now.main))) (sym (kept_is g at)) certified.dominates)),
-    )
+returns-clause-none g c = (
+  λ none. record { whole = c.requires.whole; dominates = c.go_on-found.ensures.none.0 none },
+  λ certified. c.go_on-found.ensures.none.1 certified.dominates,
+)

@@ -1,4 +1,4 @@
-use Rattle.std.proofs.Common.{◌≡◌, ℕ, suc, ◌+◌, arith, rules, List, ap, sym, ◌∙◌}
+use Rattle.std.proofs.Common.{◌≡◌, ℕ, suc, ◌+◌, arith, List, ap, sym, ◌∙◌}
 use Rattle.prta_sheet.specs.Sheet.{Task}
 use Rattle.prta_backlog.specs.Level.{Level, sheet_level}
 use Rattle.prta_certificate.specs.Certificate.{next_image, certifies}
@@ -14,8 +14,8 @@ loop-turn-preserved g c =
     let tasks : List Task = c.args.sheet.now.tasks in
     let level : Level = sheet_level c.args.task in
     record {
-      fits = search rules;
-      main = c.go_on.ensures.main ∙ ap (next_image tasks level) (c.is_certified.ensures.main ∙ c.loop-turn.invariant.main) ∙ one_further tasks level c.args.sheet.now.settings.cap c.loop-turn.turn;
+      fits = c.was_certified.ensures.fits;
+      main = c.was_certified.ensures.main ∙ ap (next_image tasks level) c.loop-turn.invariant.main ∙ one_further tasks level c.args.sheet.now.settings.cap c.loop-turn.turn;
       fail = one_more_fails (certifies tasks level) (image_of_point tasks level c.args.sheet.now.settings.cap) c.loop-turn.turn c.loop-turn.invariant.fail
-          (ap (certifies tasks level) (sym c.loop-turn.invariant.main) ∙ sym c.is_certified.ensures.test ∙ c.if-is_certified.false);
+          (ap (certifies tasks level) (sym c.loop-turn.invariant.main) ∙ sym c.was_certified.ensures.test ∙ c.if-was_certified.false);
     }
