@@ -804,10 +804,12 @@ fn ends_so(alloc: Global, case: &Case) -> Result<bool, Fail> {
 // Whether the command, with an out that takes so many bytes, gives it just so many of its text.
 fn is_cut_off(alloc: Global, served: &Case, room: usize) -> Result<bool, Fail> {
     let (status, out, err) = run_of(alloc, &Case { room, ..*served })?;
-    Ok(status == Status::WriteFault
-        && out.bytes().len() == room
-        && served.out.as_bytes().starts_with(out.bytes())
-        && err.bytes() == WRITE_FAULT.as_bytes())
+    Ok(
+        status == Status::WriteFault
+            && out.bytes().len() == room
+            && served.out.as_bytes().starts_with(out.bytes())
+            && err.bytes() == WRITE_FAULT.as_bytes(),
+    )
 }
 
 // The case with another end: the text on out where the status is Done, else on err.
@@ -1089,7 +1091,10 @@ fn every_seed_ends_so(rt: HostRuntime) -> Result<(), Fail> {
 fn a_full_out_has_a_prefix(rt: HostRuntime) -> Result<(), Fail> {
     for (i, served) in SERVED_CASES.iter().enumerate() {
         for room in 0..served.out.len() {
-            assert!(rt; is_cut_off(rt.alloc(), served, room)?, "case {i} room {room}");
+            assert!(rt;
+                is_cut_off(rt.alloc(), served, room)?,
+                "case {i} room {room}"
+            );
         }
     }
     Ok(())
