@@ -1,6 +1,6 @@
 //! The reading of a certificate.
 
-ghost use Rattle.std.specs.Prelude.{◌≡◌, ◌≤◌, length, IfOk};
+ghost use Rattle.std.specs.Prelude.{◌≡◌, ◌≤◌, length, Err, IfOk};
 ghost use Rattle.prta_sheet.specs.Accepted.{IsAccepted};
 ghost use Rattle.prta_certfile.specs.Reading.{first_line, in_line, end_fault as fault_at_end, IsReading};
 ghost use Rattle.prta_certfile.specs.Parts.{AreLinesRead};
@@ -24,6 +24,7 @@ pub fn read_cert(alloc: Global, sheet: &Sheet, bytes: &[u8]) -> Result<Certifica
     ensures levels { IfOk result (AreLevels sheet.now.tasks sheet.now.settings.cap) }
     ensures printed { IfOk result (λ levels. cert_text sheet.now.tasks levels ≡ bytes.now) }
     ensures prefix { IsPrefixAnswer sheet.now.tasks sheet.now.settings.cap bytes.now result }
+    ensures memory { result ≡ Err CertFault.NoMemory → length bytes.now ≤ CERT_LIMIT }
 {
     read_texts_are_printed();
     prefixes_are_refused();
@@ -31,7 +32,8 @@ pub fn read_cert(alloc: Global, sheet: &Sheet, bytes: &[u8]) -> Result<Certifica
 }
 
 fn read_levels(alloc: Global, sheet: &Sheet, bytes: &[u8]) -> Result<Certificate, CertFault>
-    ensures { IsReading sheet.now.tasks sheet.now.settings.cap bytes.now result }
+    ensures reading { IsReading sheet.now.tasks sheet.now.settings.cap bytes.now result }
+    ensures memory { result ≡ Err CertFault.NoMemory → length bytes.now ≤ CERT_LIMIT }
 {
     if bytes.len() > CERT_LIMIT {
         return Err(CertFault::TooLong);

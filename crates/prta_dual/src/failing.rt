@@ -71,12 +71,14 @@ pub fn first_failing_below<C: Curve, K: Kernel>(
 }
 
 /// The first analysed job of a sheet, by task in sheet order and then by number, whose upper number doesn't pass its task's
-/// allowance, with the tasks before its own above it. It takes no memory. The bench holds anything afterwards.
+/// allowance, with the tasks before its own above it. It takes no memory. The main curve and the work lists hold anything
+/// afterwards.
 pub fn first_failing<C: Curve, K: Kernel>(bench: &mut Bench<C, K>, sheet: &Sheet) -> Option<Failing>
     requires fits { FitsCap sheet.now.settings.cap (C.cells bench.old.main) (C.cells bench.old.spare) (C.cells bench.old.kept)
         (vec_len bench.old.cells) (vec_len bench.old.tail) (vec_len bench.old.room) }
     ensures first { option_map (found_job sheet.now) result ≡ failing sheet.now }
     ensures on_sheet { IfSome result (λ found. found.task < length sheet.now.tasks) }
+    ensures others { bench.new ≡ record bench.old { main = bench.new.main; cells = bench.new.cells; tail = bench.new.tail; room = bench.new.room } }
     ensures fits { FitsCap sheet.now.settings.cap (C.cells bench.new.main) (C.cells bench.new.spare) (C.cells bench.new.kept)
         (vec_len bench.new.cells) (vec_len bench.new.tail) (vec_len bench.new.room) }
 {

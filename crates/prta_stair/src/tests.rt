@@ -90,6 +90,8 @@ fn levels_go_from_instant_to_instant(rt: HostRuntime) -> Result<(), Fail> {
     let first: &[(u32, u64)] = &[(1, HALF), (6, UNIT)];
     let mut stair = Stair::new(rt.alloc(), 2048)?;
     assert_eq!(rt; stair.steps(), [(0, UNIT)].as_slice());
+    let greatest = Stair::new(rt.alloc(), 16_384)?;
+    assert_eq!(rt; greatest.steps(), [(0, UNIT)].as_slice());
     let cases: [Case; 16] = [
         (Call::Add(late, Dir::Up), (false, 0), first),
         (

@@ -1,4 +1,4 @@
-use Rattle.std.proofs.Common.{◌≡◌, ℕ, ◌<◌, Bool, true, false, is_some, Option, Some, None, option_map, length, refl, ap, sym, ◌∙◌, arith}
+use Rattle.std.proofs.Common.{rules, ◌≡◌, ℕ, ◌<◌, Bool, true, false, is_some, Option, Some, None, option_map, length, refl, ap, sym, ◌∙◌, arith}
 use Rattle.std.proofs.Math.Path.{fun_ext}
 use Rattle.prta_mass.specs.declared.direction.Dir.TheVariants.{Up}
 use Rattle.prta_sheet.specs.Sheet.{Sheet}
@@ -44,6 +44,7 @@ loop-task-preserved g c =
       rest = c.loop-task.invariant.rest
           ∙ none_here c.own_jobs_in_turn.ensures c.args.sheet.now c.loop-task.task c.tasks-task-end.ensures.accepted (listed g at)
           (sym (found_is g at) ∙ of_none c.first_failing_below-found.result (sym c.is_some.ensures ∙ c.if-is_some.false));
+      others = search rules;
       fits = c.first_failing_below-found.ensures.fits;
     }
   where
