@@ -1,6 +1,6 @@
 //! The sheet that is made of counts.
 
-ghost use Rattle.std.specs.Prelude.{◌≡◌, ◌≢◌, ◌≤◌, ◌∷◌, ◌++◌, [], None, Some, IsOk, IfOk, IfErr, IfSome};
+ghost use Rattle.std.specs.Prelude.{◌≡◌, ◌≢◌, ◌≤◌, ◌∷◌, ◌++◌, [], None, Some, length, IsOk, IfOk, IfErr, IfSome};
 ghost use Rattle.prta_cli.specs.declared.status.Status.{Status};
 ghost use Rattle.prta_cli.specs.Answer.{kept_fault, sheet_keeping, counting, IsSheetWith};
 ghost use Rattle.prta_cli.specs.Words.{IsInRange};
@@ -49,7 +49,8 @@ pub fn sheet_with_counts<S: Shelf>(
 
 // The sheet with the tables of the counts in the bytes, or how the command ends.
 fn sheet_of(alloc: Global, sheet: &Sheet, bytes: &[u8], kept: Kept) -> Result<Sheet, Ending>
-    requires { IsInRange kept }
+    requires kept { IsInRange kept }
+    requires short { length bytes.now ≤ COUNTS_LIMIT }
     ensures sheet { IfOk result (λ made. IsSheetWith kept sheet.now (Some bytes.now) made) }
     ensures safe { IfOk result (λ _. IsSafeWith kept sheet.now (Some bytes.now)) }
     ensures tells { IfErr result (λ ending. Tells ending (counting kept sheet.now (Some bytes.now))) }

@@ -28,7 +28,7 @@ use prta_outside::{FolderShelf, StdSink};
 use run::run;
 use status::Status;
 use std::alloc::Global;
-use std::env;
+use std::env::{self, Args};
 use std::io::{Stderr, Stdout};
 use std::process::ExitCode;
 use std::rt::Files;
@@ -68,7 +68,14 @@ fn words_of(rt: &HostRuntime) -> Result<Vec<String>, ExitCode>
         Err(fault) => return Err(without_words(fault.kind())),
     };
     let _program = args.next();
-    match args.collect(rt.alloc()) {
+    collected(rt.alloc(), args)
+}
+
+// The words that are left, or the number for want of memory.
+fn collected(alloc: Global, args: Args) -> Result<Vec<String>, ExitCode>
+    ensures { IfErr result (λ code. exit_status code ≡ 7) }
+{
+    match args.collect(alloc) {
         Ok(words) => Ok(words),
         Err(_) => Err(exit_code(Status::NoMemory)),
     }

@@ -1,6 +1,6 @@
 //! The script that `session` reads.
 
-ghost use Rattle.std.specs.Prelude.{◌≡◌, ◌≢◌, ◌≤◌, ◌∷◌, ◌++◌, [], Some, IfOk, IfErr, IfSome};
+ghost use Rattle.std.specs.Prelude.{◌≡◌, ◌≢◌, ◌≤◌, ◌∷◌, ◌++◌, [], Some, length, IfOk, IfErr, IfSome};
 ghost use Rattle.prta_session.specs.Playing.{AreAccepted, print_count};
 ghost use Rattle.prta_session.specs.declared.script.TheConstants.{SCRIPT_LIMIT};
 ghost use Rattle.prta_cli.specs.declared.status.Status.{Status};
@@ -45,6 +45,7 @@ pub fn script_under<S: Shelf>(
 
 // The script that the bytes are, or how the command ends.
 fn script_of(alloc: Global, sheet: &Sheet, bytes: &[u8]) -> Result<Script, Ending>
+    requires { length bytes.now ≤ SCRIPT_LIMIT }
     ensures script { IfOk result (λ script. IsScriptOf sheet.now (Some bytes.now) script) }
     ensures accepted { IfOk result (AreAccepted sheet.now) }
     ensures prints { IfOk result (λ script. print_count script ≤ SCRIPT_LIMIT) }

@@ -1,6 +1,6 @@
 //! The sheet under a name.
 
-ghost use Rattle.std.specs.Prelude.{◌≡◌, ◌≢◌, ◌∷◌, ◌++◌, [], Some, IfOk, IfErr, IfSome};
+ghost use Rattle.std.specs.Prelude.{◌≡◌, ◌≢◌, ◌≤◌, ◌∷◌, ◌++◌, [], Some, length, IfOk, IfErr, IfSome};
 ghost use Rattle.prta_sheet.specs.Sheet.{Sheet as SheetParts};
 ghost use Rattle.prta_cli.specs.declared.status.Status.{Status};
 ghost use Rattle.prta_cli.specs.Answer.{Answer, answer_to_file, refused, IsSheetOf};
@@ -34,6 +34,7 @@ pub fn sheet_under<S: Shelf>(alloc: Global, name: &str, shelf: &mut S) -> Result
 
 // The accepted sheet that the bytes state, or how the command ends.
 fn sheet_of(alloc: Global, bytes: &[u8]) -> Result<Sheet, Ending>
+    requires { length bytes.now ≤ SHEET_LIMIT }
     ensures sheet { IfOk result (λ sheet. IsSheetOf (Some bytes.now) sheet) }
     ensures tells { IfErr result (λ ending. (answers : SheetParts → Answer) → Tells ending (answer_to_file answers (Some bytes.now))) }
     ensures no_fault { IfErr result (λ ending. status_of ending ≢ Status.ReadFault) }

@@ -43,6 +43,7 @@ pub fn certificate_under<S: Shelf>(
 
 // The certificate that the bytes are, or how the command ends.
 fn certificate_of(alloc: Global, sheet: &Sheet, bytes: &[u8]) -> Result<Certificate, Ending>
+    requires { length bytes.now ≤ CERT_LIMIT }
     ensures certificate { IfOk result (λ certificate. IsCertificateOf sheet.now (Some bytes.now) certificate) }
     ensures levels { IfOk result (AreLevels sheet.now.tasks sheet.now.settings.cap) }
     ensures tells { IfErr result (λ ending. Tells ending (verification sheet.now (Some bytes.now))) }

@@ -1,6 +1,6 @@
 //! The sheet that a file of counts makes.
 
-ghost use Rattle.std.specs.Prelude.{◌≡◌, ◌≢◌, ◌≤◌, Some, None, All, map, IsOk, IfOk, IfErr};
+ghost use Rattle.std.specs.Prelude.{◌≡◌, ◌≢◌, ◌≤◌, ◌<◌, Some, None, Err, length, All, map, IsOk, IfOk, IfErr};
 ghost use Rattle.prta_times.specs.Counts.{counted, counted_sheet, sheet_by, sheet_with, reduced_sheet, tables_fault, fault_by, counts_fault, reduced_fault};
 ghost use Rattle.prta_times.specs.Parts.{CanAsk, IsInRange, AreTested};
 
@@ -26,6 +26,7 @@ pub fn read_counts(alloc: Global, sheet: &Sheet, bytes: &[u8]) -> Result<Sheet, 
     ensures read { IfOk result (λ made. made ≡ sheet_with sheet.now bytes.now) }
     ensures accepted { IsOk result → counts_fault sheet.now bytes.now ≡ None }
     ensures refused { IfErr result (λ fault. fault ≢ CountsFault.NoMemory → counts_fault sheet.now bytes.now ≡ Some fault) }
+    ensures too_long { COUNTS_LIMIT < length bytes.now → result ≡ Err CountsFault.TooLong }
 {
     sheet_by(alloc, sheet, bytes, Points::Every)
 }
@@ -44,6 +45,7 @@ pub fn reduce_counts(
     ensures read { IfOk result (λ made. made ≡ reduced_sheet k sheet.now bytes.now) }
     ensures accepted { IsOk result → reduced_fault k sheet.now bytes.now ≡ None }
     ensures refused { IfErr result (λ fault. fault ≢ CountsFault.NoMemory → reduced_fault k sheet.now bytes.now ≡ Some fault) }
+    ensures too_long { COUNTS_LIMIT < length bytes.now → result ≡ Err CountsFault.TooLong }
 {
     sheet_by(alloc, sheet, bytes, Points::AtMost(k))
 }
@@ -59,6 +61,7 @@ fn sheet_by(
     ensures read { IfOk result (λ made. made ≡ sheet_by points sheet.now bytes.now) }
     ensures accepted { IsOk result → fault_by points sheet.now bytes.now ≡ None }
     ensures refused { IfErr result (λ fault. fault ≢ CountsFault.NoMemory → fault_by points sheet.now bytes.now ≡ Some fault) }
+    ensures too_long { COUNTS_LIMIT < length bytes.now → result ≡ Err CountsFault.TooLong }
 {
     if bytes.len() > COUNTS_LIMIT {
         return Err(CountsFault::TooLong);

@@ -30,6 +30,10 @@ abbrev pub session_after : Line → SessionState → SessionState
 session_after Print session = refreshed session
 session_after (Change edit) session = session_edited edit session
 
+abbrev pub session_played : List Line → SessionState → SessionState
+session_played [] session = session
+session_played (line ∷ lines) session = session_played lines (session_after line session)
+
 abbrev pub text_of : Line → SessionState → List ℕ
 text_of Print session = analyse_text session.sheet
 text_of (Change edit) session = []

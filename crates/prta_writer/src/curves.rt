@@ -4,6 +4,7 @@ ghost use Rattle.std.specs.Prelude.{◌≡◌, ◌≤◌, length, vec_len, IfOk}
 ghost use Rattle.prta_response.specs.Fitting.{FitsCap};
 ghost use Rattle.prta_writer.specs.Curves.{has_few_points, kind_for, kind_of, cap_of, FitsCurves};
 
+use crate::room::PAGE;
 use prta_backlog::Bench;
 use prta_convlane::Lane;
 use prta_dist::{Curve, Dense};
@@ -15,9 +16,10 @@ use std::alloc::Global;
 /// A support with at most so many points below the cap leaves so few steps that curves of steps are the faster ones.
 pub const FEW_POINTS: usize = 512;
 
-/// The limit as a number.
-pub fn stated_limit()
-    ensures { FEW_POINTS ≡ 512 }
+/// The limits as numbers.
+pub fn stated_limits()
+    ensures points { FEW_POINTS ≡ 512 }
+    ensures page { PAGE ≡ 65536 }
 {}
 
 /// How the curves of an analysis keep their lists. The lists, and so all numbers, are the same.

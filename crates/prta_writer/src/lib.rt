@@ -24,7 +24,7 @@ mod verifying;
 pub use amounts::write_bench;
 pub use assigning::assignment;
 pub use checking::write_check;
-pub use curves::{FEW_POINTS, Kind, stated_limit};
+pub use curves::{FEW_POINTS, Kind, stated_limits};
 pub use output::put_all;
 pub use playing::play;
 pub use report::{What, write_report};

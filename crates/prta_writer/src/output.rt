@@ -28,6 +28,7 @@ pub fn put_all<K: Sink>(sink: &mut K, text: &[u8]) -> Result<(), SinkFault>
 pub fn make_room<K: Sink>(page: &mut Page, sink: &mut K) -> Result<(), SinkFault>
     requires { LINE ≤ length page.old.written + page.old.spare }
     ensures room { OnOk result (LINE ≤ page.new.spare) }
+    ensures stays { LINE ≤ page.old.spare → (page.new ≡ page.old) × (sink.new ≡ sink.old) }
     ensures took { OnOk result (TookAllBut (K.taken sink.old) (K.taken sink.new) page.old.written page.new.written) }
     ensures fault { OnErr result (HasRisen (K.faults sink.old) (K.faults sink.new)) }
     ensures part { OnErr result (TookPart (K.taken sink.old) (K.taken sink.new) page.old.written) }

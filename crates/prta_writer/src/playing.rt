@@ -9,7 +9,7 @@ ghost use Rattle.prta_sheet.specs.Sheet.{sheet_order, hyperperiod};
 ghost use Rattle.prta_sheet.specs.Counts.{all_jobs};
 ghost use Rattle.prta_report.specs.Text.{count_line as line_of_counts};
 ghost use Rattle.prta_report.specs.Analysis.{analyse_text, analyse_rows};
-ghost use Rattle.prta_writer.specs.Playing.{session_text, AreAroundAtPrints, IsGoodLine, session_after, text_of, tasks_of, ShownBy};
+ghost use Rattle.prta_writer.specs.Playing.{session_text, AreAroundAtPrints, IsGoodLine, session_after, session_played, text_of, tasks_of, ShownBy};
 ghost use Rattle.prta_writer.specs.Writing.{Took, TookPart, TookAllBut};
 
 use crate::meaning::what_numbers_mean;
@@ -37,6 +37,7 @@ pub fn play<W: Worker, O: Sink>(
     ensures text { OnOk result (Took (O.taken out.old) (O.taken out.new) (session_text session.old.sheet script)) }
     ensures analysed { OnOk result (W.analysed worker.new ≡ lengthened (W.analysed worker.old) (tasks_analysed session.old script)) }
     ensures around { OnOk result (AreAroundAtPrints session.old.sheet script) }
+    ensures session { OnOk result (session.new ≡ session_played script session.old) }
     ensures fault { OnErr result (HasRisen (O.faults out.old) (O.faults out.new)) }
     ensures part { OnErr result (TookPart (O.taken out.old) (O.taken out.new) (session_text session.old.sheet script)) }
 {

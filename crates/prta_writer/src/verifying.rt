@@ -25,8 +25,8 @@ use prta_report::{LINE, Page, broken_line, uncertified_line};
 use prta_sheet::Sheet;
 
 /// Writes what a certificate is worth for a sheet: the steady numbers of each level with a list, where every list certifies
-/// its level, else the first level whose list doesn't. All lists are tested before the first byte. It takes no memory: it fails
-/// only where out does, and then out took a prefix of the text.
+/// its level, else the first level whose list doesn't. It takes no memory: it fails only where out does, and then out took a
+/// prefix of the text.
 pub fn write_verify<O: Sink>(
     room: &mut Room,
     sheet: &Sheet,

@@ -1,10 +1,10 @@
 -- Each turn plays one more line; at the end what stands on the page is put.
-use Rattle.std.proofs.Common.{◌≡◌, ℕ, ◌+◌, ◌*◌, ◌≤◌, ◌++◌, List, [], ◌∷◌, length, append-nil, ap, sym, ◌∙◌, subst, arith}
+use Rattle.std.proofs.Common.{◌≡◌, ℕ, ◌+◌, ◌*◌, ◌≤◌, ◌++◌, List, [], ◌∷◌, length, append-nil, refl, ap, sym, ◌∙◌, subst, arith}
 use Rattle.prta_session.specs.declared.script.Line.{Line}
 use Rattle.prta_session.specs.State.{SessionState}
 use Rattle.prta_session.specs.Playing.{AreAccepted, print_count}
 use Rattle.prta_report.specs.Page.{PageParts}
-use Rattle.prta_writer.specs.Playing.{session_text, session_after}
+use Rattle.prta_writer.specs.Playing.{session_text, session_after, session_played}
 use Rattle.prta_writer.specs.Writing.{Took, TookPart}
 use Rattle.prta_writer.proofs.Parts.{anyway}
 use Rattle.prta_writer.proofs.Taking.{put_whole, part_then}
@@ -16,6 +16,7 @@ use Rattle.prta_writer.proofs.playing.play.Goals.{After-put_all}
 pub loop-line-init : goal.loop-line-init
 loop-line-init g c = record {
   played = none_played c.args.session.now c.args.script _ _ c.clear.new.self.written (ap (λ (p : PageParts). p.written) c.clear.ensures);
+  session = refl;
   accepted = c.requires.accepted;
   cap = c.requires.cap;
   room = c.requires.room;
@@ -42,6 +43,7 @@ loop-line-preserved g c =
     record {
       played = line_played c.args.session.now c.args.script session line rest c.loop-line.left _ _ (g.O.Sink.taken c.play_line.new.out) c.loop-line.page.written _ _ so_far.played c.in-Some.ensures
           c.play_line.new.session c.play_line.new.page.written (g.W.Worker.analysed c.play_line.new.worker) put.session put.shown put.took put.analysed;
+      session = so_far.session ∙ ap (λ (lines : List Line). session_played lines session) c.in-Some.ensures ∙ ap (session_played rest) (sym put.session);
       accepted = subst (λ (s : SessionState). AreAccepted s.sheet rest) (sym put.session) (accepted_next session line rest (subst (AreAccepted session.sheet) c.in-Some.ensures so_far.accepted));
       cap = put.cap ∙ so_far.cap ∙ sym (same_cap session line) ∙ ap (λ (s : SessionState). s.sheet.settings.cap) (sym put.session);
       room = subst (λ (s : SessionState). length s.sheet.tasks * print_count rest ≤ now) (sym put.session)
@@ -84,3 +86,6 @@ returns-clause-text g c =
     let d = g.O.Sink.taken c.put_all.new.sink in
     let played = c.loop-line.invariant.played in
     subst (Took a d) (text_is g at) (put_whole a b d played.text c.loop-line.page.written played.took (subst (Took b d) c.bytes.ensures c.in_ok-put_all.ensures.whole))
+
+pub returns-clause-session : goal.returns-clause-session
+returns-clause-session g c = sym (c.loop-line.invariant.session ∙ ap (λ (lines : List Line). session_played lines c.loop-line.session) c.in_default.ensures.0)
