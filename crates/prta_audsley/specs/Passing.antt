@@ -3,7 +3,6 @@ use Rattle.std.specs.Prelude.{ℕ, ◌*◌, ◌≤◌, ◌<◌, Bool, List, leng
 use Rattle.std.specs.List.{list_all, range_with_len}
 use Rattle.prta_mass.specs.Passing.{passes}
 use Rattle.prta_mass.specs.declared.direction.Dir.{Dir}
-use Rattle.prta_mass.specs.declared.direction.Dir.TheVariants.{Up, Down}
 use Rattle.prta_sheet.specs.Sheet.{Sheet, task_at}
 use Rattle.prta_sheet.specs.Job.{Job, nth_job}
 use Rattle.prta_sheet.specs.Counts.{job_count}

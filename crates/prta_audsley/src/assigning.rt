@@ -1,8 +1,8 @@
 //! The assignment of priorities.
 
-ghost use Rattle.std.specs.Prelude.{◌≡◌, ◌≤◌, true, IfOk, IfErr, length, vec_len};
+ghost use Rattle.std.specs.Prelude.{◌≡◌, true, IfOk, IfErr, length, vec_len};
 ghost use Rattle.prta_jobs.specs.Permutation.{is_order};
-ghost use Rattle.prta_response.specs.Fitting.{FitsCap};
+ghost use Rattle.prta_backlog.specs.Fitting.{FitsCap};
 ghost use Rattle.prta_audsley.specs.Verdict.{verdict, Says, IsExactly};
 
 use crate::assigned::Assigned;

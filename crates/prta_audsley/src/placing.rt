@@ -1,10 +1,10 @@
 //! The greedy assignment, from the lowest place up.
 
-ghost use Rattle.std.specs.Prelude.{◌≡◌, ℕ, ◌<◌, ◌≤◌, true, ◌&&◌, position, nat_eq, swap, IfSome, length, vec_len};
+ghost use Rattle.std.specs.Prelude.{◌≡◌, ◌<◌, true, ◌&&◌, position, nat_eq, swap, IfSome, length, vec_len};
 ghost use Rattle.prta_sheet.specs.Machine.{place};
 ghost use Rattle.prta_jobs.specs.TaskSet.{holds};
 ghost use Rattle.prta_jobs.specs.Permutation.{is_order};
-ghost use Rattle.prta_response.specs.Fitting.{FitsCap};
+ghost use Rattle.prta_backlog.specs.Fitting.{FitsCap};
 ghost use Rattle.prta_audsley.specs.Passing.{task_passes};
 ghost use Rattle.prta_audsley.specs.Verdict.{greedy_by, other_tasks};
 ghost use Rattle.prta_audsley.specs.Placing.{IsSetOf, IsFirstPassing, outcome_of};

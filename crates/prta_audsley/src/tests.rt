@@ -1,16 +1,10 @@
 //! Assignments of worked sheets, on curves that keep every cell.
 
-ghost use Rattle.std.specs.Prelude.{vec_len, IfOk};
-ghost use Rattle.prta_response.specs.Fitting.{FitsCap};
-
 use super::*;
-use prta_backlog::Bench;
+use prta_backlog::bench_for;
 use prta_convplain::Plain;
-use prta_dist::{Curve, Dense};
 use prta_jobs::TaskSet;
-use prta_mass::NoMemory;
-use prta_sheet::{Sheet, TASK_LIMIT, read_sheet};
-use std::alloc::Global;
+use prta_sheet::{TASK_LIMIT, read_sheet};
 use std::test::Fail;
 
 // Which answer it is.
@@ -85,7 +79,7 @@ static ROWS: [Row; 9] = [
 fn sheets_have_their_verdicts(rt: HostRuntime) -> Result<(), Fail> {
     for (i, (text, want, tasks)) in ROWS.iter().enumerate() {
         let sheet = read_sheet(rt.alloc(), text)?;
-        let mut bench = bench_of(rt.alloc(), &sheet)?;
+        let mut bench = bench_for(rt.alloc(), &sheet, Plain)?;
         let assigned = assign(rt.alloc(), &mut bench, &sheet)?;
         assert!(rt; is_answer(&assigned, *want, tasks), "sheet {i}");
     }
@@ -110,17 +104,4 @@ fn is_set(set: TaskSet, tasks: &[usize]) -> bool {
         }
     }
     true
-}
-
-// A bench for the sheet.
-fn bench_of(alloc: Global, sheet: &Sheet) -> Result<Bench<Dense<Plain>, Plain>, NoMemory>
-    ensures { IfOk result (λ bench. FitsCap sheet.now.settings.cap bench.main bench.spare bench.kept (vec_len bench.cells) (vec_len bench.tail) (vec_len bench.room)) }
-{
-    let _settings = sheet.settings();
-    let cap = sheet.cap();
-    let main = Dense::new(alloc, Plain, cap)?;
-    let spare = Dense::new(alloc, Plain, cap)?;
-    let kept = Dense::new(alloc, Plain, cap)?;
-    let bench = Bench::new(alloc, main, spare, kept, Plain)?;
-    Ok(bench)
 }

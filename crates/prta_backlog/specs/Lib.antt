@@ -6,5 +6,6 @@ pub mod Room
 pub mod AreNoted
 pub mod Pass
 pub mod Bench
+pub mod Fitting
 pub mod Laws
 pub mod Worked

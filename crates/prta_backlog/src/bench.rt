@@ -4,9 +4,11 @@ ghost use Rattle.std.specs.Prelude.{◌≡◌, ◌↔◌, None, length, vec_len,
 ghost use Rattle.prta_mass.specs.Chances.{Dominates};
 ghost use Rattle.prta_dist.specs.Curve.{first_break};
 ghost use Rattle.prta_backlog.specs.Bench.{HaveOneCap};
+ghost use Rattle.prta_backlog.specs.Fitting.{FitsCap};
 
-use prta_dist::{Break, Curve, Kernel};
+use prta_dist::{Break, Curve, Dense, Kernel};
 use prta_mass::NoMemory;
+use prta_sheet::Sheet;
 use std::alloc::Global;
 
 /// Three curves, a kernel and three work lists, made once for all tasks of a sheet.
@@ -41,8 +43,8 @@ impl<C: Curve, K: Kernel> Bench<C, K> {
         requires { HaveOneCap (C.cells main) (C.cells spare) (C.cells kept) }
         ensures curves { IfOk result (λ bench. (bench.main ≡ main) × (bench.spare ≡ spare) × (bench.kept ≡ kept)) }
         ensures kernel { IfOk result (λ bench. bench.kernel ≡ kernel) }
-        ensures lists { let cap = length (C.cells main) in
-            IfOk result (λ bench. (vec_len bench.cells ≡ cap) × (vec_len bench.tail ≡ cap) × (vec_len bench.room ≡ cap)) }
+        ensures fits { IfOk result (λ bench. FitsCap (length (C.cells main)) (C.cells bench.main) (C.cells bench.spare) (C.cells bench.kept)
+            (vec_len bench.cells) (vec_len bench.tail) (vec_len bench.room)) }
     {
         let cap = main.cap();
         let cells = vec![in alloc; 0; cap]?;
@@ -104,4 +106,22 @@ impl<C: Curve, K: Kernel> Bench<C, K> {
     {
         self.kept.first_break(&self.main)
     }
+}
+
+/// A bench that is enough for a sheet, over curves that keep every cell. Fails for want of memory alone.
+pub fn bench_for<K: Kernel + Copy>(
+    alloc: Global,
+    sheet: &Sheet,
+    kernel: K,
+) -> Result<Bench<Dense<K>, K>, NoMemory>
+    ensures fits { IfOk result (λ bench. FitsCap sheet.now.settings.cap bench.main bench.spare bench.kept (vec_len bench.cells) (vec_len bench.tail) (vec_len bench.room)) }
+    ensures kernel { IfOk result (λ bench. bench.kernel ≡ kernel) }
+{
+    let _tasks = sheet.tasks();
+    let cap = sheet.cap();
+    let main = Dense::new(alloc, kernel, cap)?;
+    let spare = Dense::new(alloc, kernel, cap)?;
+    let kept = Dense::new(alloc, kernel, cap)?;
+    let bench = Bench::new(alloc, main, spare, kept, kernel)?;
+    Ok(bench)
 }

@@ -1,6 +1,6 @@
 //! The greatest numbers of a level: one backlog number goes from instant to instant, with all greatest times.
 
-ghost use Rattle.std.specs.Prelude.{◌≡◌, ℕ, ◌+◌, ◌*◌, ◌^◌, ◌<◌, ◌≤◌, ◌-◌, true, false, Some, unwrap_or, filter, max};
+ghost use Rattle.std.specs.Prelude.{◌≡◌, ℕ, ◌+◌, ◌^◌, ◌<◌, ◌≤◌, ◌-◌, true, false, Some, unwrap_or, filter, max};
 ghost use Rattle.prta_sheet.specs.Sheet.{task_at, hyperperiod as hyperperiod_of};
 ghost use Rattle.prta_sheet.specs.Job.{is_release, released_at};
 ghost use Rattle.prta_jobs.specs.TaskSet.{holds};

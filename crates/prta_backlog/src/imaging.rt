@@ -1,6 +1,6 @@
 //! Images of lists of chances.
 
-ghost use Rattle.std.specs.Prelude.{◌≡◌, ◌≤◌, false, unwrap_or, length};
+ghost use Rattle.std.specs.Prelude.{◌≡◌, ◌≤◌, false, length};
 ghost use Rattle.prta_sheet.specs.Sheet.{hyperperiod as hyperperiod_of, horizon};
 ghost use Rattle.prta_jobs.specs.TaskSet.{holds};
 ghost use Rattle.prta_jobs.specs.Instant.{IsOnSheet};

@@ -1,6 +1,6 @@
 //! The instants of a level.
 
-ghost use Rattle.std.specs.Prelude.{◌≡◌, ◌+◌, ◌^◌, ◌<◌, ◌≤◌, Option};
+ghost use Rattle.std.specs.Prelude.{◌+◌, ◌^◌, ◌<◌, ◌≤◌, Option};
 ghost use Rattle.prta_jobs.specs.TaskSet.{holds};
 ghost use Rattle.prta_jobs.specs.Instant.{IsOnSheet, IsInstant};
 ghost use Rattle.prta_backlog.specs.Level.{has_task};

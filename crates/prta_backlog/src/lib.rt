@@ -15,7 +15,7 @@ mod room;
 mod tests;
 mod worked;
 
-pub use bench::Bench;
+pub use bench::{Bench, bench_for};
 pub use greatest::{greatest_work, peak, worst_backlog};
 pub use imaging::image;
 pub use laws::{

@@ -1,6 +1,6 @@
 //! Level runs, images and greatest numbers of worked sheets, on curves that keep every cell.
 
-ghost use Rattle.std.specs.Prelude.{◌≡◌, false, IfOk, IfSome};
+ghost use Rattle.std.specs.Prelude.{◌≡◌, false, IfSome};
 ghost use Rattle.prta_jobs.specs.TaskSet.{holds};
 ghost use Rattle.prta_jobs.specs.Instant.{IsOnSheet};
 ghost use Rattle.prta_backlog.specs.Level.{has_task};
@@ -9,13 +9,12 @@ ghost use Rattle.prta_backlog.specs.Bench.{HaveOneCap};
 
 use super::*;
 use prta_convplain::Plain;
-use prta_dist::{Curve, Dense, Kernel};
+use prta_dist::{Curve, Kernel};
 use prta_jobs::TaskSet;
 use prta_ledger::{Entry, Kind, Ledger, Notes};
 use prta_mass::Dir::{self, Down, Up};
-use prta_mass::{NoMemory, UNIT};
+use prta_mass::UNIT;
 use prta_sheet::{Sheet, read_sheet};
-use std::alloc::Global;
 use std::test::Fail;
 
 const EIGHTH: u64 = 144_115_188_075_855_872;
@@ -209,7 +208,7 @@ const RUNS: [Run; 10] = [
 fn level_runs_have_their_lists_and_entries(rt: HostRuntime) -> Result<(), Fail> {
     for (text, own, dir, steps, cells, entries) in RUNS {
         let sheet = read_sheet(rt.alloc(), text)?;
-        let mut bench = bench_of(rt.alloc(), &sheet)?;
+        let mut bench = bench_for(rt.alloc(), &sheet, Plain)?;
         let mut ledger = Ledger::with_room(rt.alloc(), 100)?;
         assert!(rt; makes_steps(&mut bench, &sheet, own, dir, steps, &mut ledger));
         assert!(rt; has_cells(&bench.main, cells));
@@ -221,7 +220,7 @@ fn level_runs_have_their_lists_and_entries(rt: HostRuntime) -> Result<(), Fail> 
 #[test]
 fn a_bench_keeps_lists_and_makes_images(rt: HostRuntime) -> Result<(), Fail> {
     let sheet = read_sheet(rt.alloc(), LATE)?;
-    let mut bench = bench_of(rt.alloc(), &sheet)?;
+    let mut bench = bench_for(rt.alloc(), &sheet, Plain)?;
     bench.keep();
     bench.set_aside();
     assert!(rt; makes_image(&mut bench, &sheet, 0));
@@ -290,17 +289,6 @@ fn tasks_before(sheet: &Sheet, own: usize) -> Option<TaskSet>
         return None;
     }
     Some(TaskSet::below(own))
-}
-
-fn bench_of(alloc: Global, sheet: &Sheet) -> Result<Bench<Dense<Plain>, Plain>, NoMemory>
-    ensures { IfOk result (λ bench. HaveOneCap bench.main bench.spare bench.kept) }
-{
-    let _settings = sheet.settings();
-    let cap = sheet.cap();
-    let main = Dense::new(alloc, Plain, cap)?;
-    let spare = Dense::new(alloc, Plain, cap)?;
-    let kept = Dense::new(alloc, Plain, cap)?;
-    Bench::new(alloc, main, spare, kept, Plain)
 }
 
 // Makes so many instants of the level run of a task below those before it, and answers whether it could.

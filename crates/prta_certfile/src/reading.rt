@@ -1,7 +1,6 @@
 //! The reading of a certificate.
 
 ghost use Rattle.std.specs.Prelude.{◌≡◌, ◌≤◌, length, Err, IfOk};
-ghost use Rattle.prta_sheet.specs.Accepted.{IsAccepted};
 ghost use Rattle.prta_certfile.specs.Reading.{first_line, in_line, end_fault as fault_at_end, IsReading};
 ghost use Rattle.prta_certfile.specs.Parts.{AreLinesRead};
 ghost use Rattle.prta_certfile.specs.Laws.{AreLevels, IsPrefixAnswer};

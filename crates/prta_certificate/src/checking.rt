@@ -2,7 +2,7 @@
 
 ghost use Rattle.std.specs.Prelude.{◌≡◌, ◌↔◌, ◌<◌, None, length, vec_len};
 ghost use Rattle.prta_mass.specs.Chances.{IsWhole, Dominates};
-ghost use Rattle.prta_response.specs.Fitting.{FitsCap};
+ghost use Rattle.prta_backlog.specs.Fitting.{FitsCap};
 ghost use Rattle.prta_backlog.specs.Level.{sheet_level};
 ghost use Rattle.prta_certificate.specs.Certificate.{Certifies, broken_at, next_image};
 

@@ -2,7 +2,7 @@
 
 ghost use Rattle.std.specs.Prelude.{◌≡◌, ◌<◌, true, length, vec_len, IfSome};
 ghost use Rattle.prta_mass.specs.Chances.{point};
-ghost use Rattle.prta_response.specs.Fitting.{FitsCap};
+ghost use Rattle.prta_backlog.specs.Fitting.{FitsCap};
 ghost use Rattle.prta_backlog.specs.Bench.{HaveOneCap};
 ghost use Rattle.prta_backlog.specs.Greatest.{worst_backlog as worst_backlog_of};
 ghost use Rattle.prta_dist.specs.Curve.{lower as lower_of};

@@ -4,7 +4,7 @@ ghost use Rattle.std.specs.Prelude.{◌≡◌, ◌/◌, ◌<◌, map, length, ve
 ghost use Rattle.std.specs.List.{range_with_len};
 ghost use Rattle.prta_sheet.specs.Sheet.{task_at, hyperperiod};
 ghost use Rattle.prta_sheet.specs.Job.{nth_job};
-ghost use Rattle.prta_response.specs.Fitting.{FitsCap};
+ghost use Rattle.prta_backlog.specs.Fitting.{FitsCap};
 ghost use Rattle.prta_backlog.specs.Level.{sheet_level};
 ghost use Rattle.prta_certificate.specs.Certificate.{Certifies, steady_number};
 ghost use Rattle.prta_certificate.specs.Levels.{SteadyHold};

@@ -1,11 +1,11 @@
 //! Certificates of worked sheets, on curves that keep every cell.
 
-ghost use Rattle.std.specs.Prelude.{◌≡◌, length, vec_len, IfOk};
+ghost use Rattle.std.specs.Prelude.{◌≡◌, length, vec_len};
 ghost use Rattle.prta_certfile.specs.Laws.{AreLevels};
-ghost use Rattle.prta_response.specs.Fitting.{FitsCap};
+ghost use Rattle.prta_backlog.specs.Fitting.{FitsCap};
 
 use super::*;
-use prta_backlog::Bench;
+use prta_backlog::{Bench, bench_for};
 use prta_certfile::{cert_text, read_cert, steps_are_lists};
 use prta_convplain::Plain;
 use prta_dist::{Break, Curve, Dense};
@@ -95,7 +95,7 @@ static ROWS: [Row; 6] = [
 fn levels_have_their_certificates(rt: HostRuntime) -> Result<(), Fail> {
     for (i, (text, task, verdict, cells, first)) in ROWS.iter().enumerate() {
         let sheet = read_sheet(rt.alloc(), text)?;
-        let mut bench = bench_of(rt.alloc(), &sheet)?;
+        let mut bench = bench_for(rt.alloc(), &sheet, Plain)?;
         assert!(rt;
             is_steady(&mut bench, &sheet, *task, *first),
             "steady numbers {i}"
@@ -178,23 +178,10 @@ fn is_same(found: Verdict, want: Verdict) -> bool {
     }
 }
 
-// A bench for the sheet.
-fn bench_of(alloc: Global, sheet: &Sheet) -> Result<Bench<Dense<Plain>, Plain>, NoMemory>
-    ensures { IfOk result (λ bench. FitsCap sheet.now.settings.cap bench.main bench.spare bench.kept (vec_len bench.cells) (vec_len bench.tail) (vec_len bench.room)) }
-{
-    let _settings = sheet.settings();
-    let cap = sheet.cap();
-    let main = Dense::new(alloc, Plain, cap)?;
-    let spare = Dense::new(alloc, Plain, cap)?;
-    let kept = Dense::new(alloc, Plain, cap)?;
-    let bench = Bench::new(alloc, main, spare, kept, Plain)?;
-    Ok(bench)
-}
-
 #[test]
 fn certificates_keep_their_lists(rt: HostRuntime) -> Result<(), Fail> {
     let sheet = read_sheet(rt.alloc(), LATE)?;
-    let mut bench = bench_of(rt.alloc(), &sheet)?;
+    let mut bench = bench_for(rt.alloc(), &sheet, Plain)?;
     assert!(rt; sheet.tasks().len() == 1, "one task");
     let text = found_text(rt.alloc(), &mut bench, &sheet)?;
     assert!(rt; text.as_slice() == FOUND, "what is found");

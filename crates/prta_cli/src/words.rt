@@ -1,6 +1,6 @@
 //! The words of the command line: the first by hand, the others by `clap`.
 
-ghost use Rattle.std.specs.Prelude.{◌≡◌, ◌≤◌, Some, None, IfOk, IfErr};
+ghost use Rattle.std.specs.Prelude.{◌≡◌, Some, None, IfOk, IfErr};
 ghost use Rattle.prta_words.specs.Words.{texts};
 ghost use Rattle.prta_cli.specs.Words.{command, command_of, command_by, analyse_command, sheet_command, files_command, reduce_command, points_number, seed_command, seed_numbers, KeepsInRange, HasNumbers};
 

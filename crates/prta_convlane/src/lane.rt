@@ -15,7 +15,7 @@ use prta_mass::{Dir, Divisor, TimeTable};
 ///
 /// A cell is cut into limbs, so that their weighted sums fit a lane: into two halves where the table's total is below
 /// 2^32, else into four quarters. The cells after the last eight are summed one by one.
-#[derive(Drop)]
+#[derive(Clone, Copy)]
 pub struct Lane;
 
 impl Kernel for Lane {

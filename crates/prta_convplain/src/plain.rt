@@ -1,13 +1,11 @@
 //! The kernel over cells.
 
-ghost use Rattle.std.specs.Prelude.{◌≡◌, length};
-
 use crate::sums::{rounded_quotient, weighted_sum};
 use prta_dist::Kernel;
 use prta_mass::{Dir, TimeTable};
 
 /// A kernel that sums each cell in 128 bits.
-#[derive(Drop)]
+#[derive(Clone, Copy)]
 pub struct Plain;
 
 impl Kernel for Plain {

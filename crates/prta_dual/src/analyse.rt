@@ -12,7 +12,7 @@ ghost use Rattle.prta_backlog.specs.Pass.{level_of};
 ghost use Rattle.prta_backlog.specs.Room.{room_for};
 ghost use Rattle.prta_backlog.specs.Laws.{entry_count, delay_count};
 ghost use Rattle.prta_response.specs.Chance.{IsOrderFor, BoundsChance, copy_of};
-ghost use Rattle.prta_response.specs.Fitting.{FitsCap};
+ghost use Rattle.prta_backlog.specs.Fitting.{FitsCap};
 ghost use Rattle.prta_dual.specs.Numbers.{bounds_of, all_bounds};
 ghost use Rattle.prta_dual.specs.Direction.{with_number as with_number_in, all_written};
 ghost use Rattle.prta_dual.specs.Entries.{entries, entries_in, job_sum};

@@ -5,7 +5,7 @@ ghost use Rattle.prta_jobs.specs.TaskSet.{holds};
 ghost use Rattle.prta_jobs.specs.Instant.{IsOnSheet};
 ghost use Rattle.prta_backlog.specs.Level.{has_task};
 ghost use Rattle.prta_backlog.specs.Pass.{level_of};
-ghost use Rattle.prta_response.specs.Fitting.{FitsCap};
+ghost use Rattle.prta_backlog.specs.Fitting.{FitsCap};
 ghost use Rattle.prta_dual.specs.Failing.{failing_number, failing_at, failing, found_job};
 
 use crate::laws::own_jobs_in_turn;

@@ -1,18 +1,17 @@
 //! Analyses of worked sheets, on curves that keep every cell.
 
-ghost use Rattle.std.specs.Prelude.{vec_len, IfOk};
-ghost use Rattle.prta_response.specs.Fitting.{FitsCap};
+ghost use Rattle.std.specs.Prelude.{vec_len};
+ghost use Rattle.prta_backlog.specs.Fitting.{FitsCap};
 
 use super::*;
-use prta_backlog::{Bench, room_for};
+use prta_backlog::{Bench, bench_for, room_for};
 use prta_convplain::Plain;
-use prta_dist::{Curve, Dense, Kernel};
+use prta_dist::{Curve, Kernel};
 use prta_jobs::TaskSet;
 use prta_ledger::{Entry, Kind, Ledger, NoNotes, Notes};
 use prta_mass::Dir::{self, Down, Up};
-use prta_mass::{NoMemory, UNIT};
+use prta_mass::UNIT;
 use prta_sheet::{Sheet, read_sheet};
-use std::alloc::Global;
 use std::test::Fail;
 
 const EIGHTH: u64 = 144_115_188_075_855_872;
@@ -184,7 +183,7 @@ static ROWS: [Row; 15] = [
 fn analyses_have_their_numbers_and_entries(rt: HostRuntime) -> Result<(), Fail> {
     for &(text, task, numbers, entries, sums) in ROWS.iter() {
         let sheet = read_sheet(rt.alloc(), text)?;
-        let mut bench = bench_of(rt.alloc(), &sheet)?;
+        let mut bench = bench_for(rt.alloc(), &sheet, Plain)?;
         let mut ledger = Ledger::with_room(rt.alloc(), room_for(&sheet))?;
         let mut found = vec![in rt.alloc(); NOTHING; numbers.len()]?;
         assert!(rt; finds_first(&mut bench, &sheet, task, numbers));
@@ -240,7 +239,7 @@ static SYSTEM_NUMBERS: [&[(u64, u64)]; 5] = [
 fn a_whole_system_is_analysed(rt: HostRuntime) -> Result<(), Fail> {
     let sheet = read_sheet(rt.alloc(), SYSTEM)?;
     for (task, numbers) in SYSTEM_NUMBERS.iter().enumerate() {
-        let mut bench = bench_of(rt.alloc(), &sheet)?;
+        let mut bench = bench_for(rt.alloc(), &sheet, Plain)?;
         let mut found = vec![in rt.alloc(); NOTHING; numbers.len()]?;
         assert!(rt; is_analysed(&mut bench, &sheet, task, &mut NoNotes, &mut found));
         assert!(rt; are_numbers(&found, numbers));
@@ -290,18 +289,6 @@ fn finds_first<C: Curve, K: Kernel>(
         }
         None => want.is_none(),
     }
-}
-
-fn bench_of(alloc: Global, sheet: &Sheet) -> Result<Bench<Dense<Plain>, Plain>, NoMemory>
-    ensures { IfOk result (λ bench. FitsCap sheet.now.settings.cap bench.main bench.spare bench.kept (vec_len bench.cells) (vec_len bench.tail) (vec_len bench.room)) }
-{
-    let _settings = sheet.settings();
-    let cap = sheet.cap();
-    let main = Dense::new(alloc, Plain, cap)?;
-    let spare = Dense::new(alloc, Plain, cap)?;
-    let kept = Dense::new(alloc, Plain, cap)?;
-    let bench = Bench::new(alloc, main, spare, kept, Plain)?;
-    Ok(bench)
 }
 
 // Whether these are the numbers.

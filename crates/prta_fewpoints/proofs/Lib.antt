@@ -7,4 +7,3 @@ pub mod Moved
 pub mod Made
 pub mod Steps
 pub mod Places
-pub mod Faults

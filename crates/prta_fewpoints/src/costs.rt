@@ -1,6 +1,6 @@
 //! The least costs of moving the pairs from a place on to just so many times, in one list.
 
-ghost use Rattle.std.specs.Prelude.{◌≡◌, ℕ, suc, ◌+◌, ◌*◌, ◌/◌, ◌%◌, ◌<◌, ◌≤◌, ◌^◌, length, drop, All, IfOk, IfSome};
+ghost use Rattle.std.specs.Prelude.{◌≡◌, suc, ◌+◌, ◌*◌, ◌/◌, ◌%◌, ◌<◌, ◌≤◌, ◌^◌, length, drop, IfOk, IfSome};
 ghost use Rattle.prta_fewpoints.specs.Wide.{IsWide};
 ghost use Rattle.prta_fewpoints.specs.Recursion.{least_cost};
 ghost use Rattle.prta_fewpoints.specs.Costs.{AreCosts, AreShort};

@@ -1,6 +1,6 @@
 //! Which times the reduction keeps.
 
-ghost use Rattle.std.specs.Prelude.{◌≡◌, ℕ, suc, ◌+◌, ◌*◌, ◌<◌, ◌≤◌, ◌∷◌, length, drop, slice_index_or, IfOk, IsSome};
+ghost use Rattle.std.specs.Prelude.{◌≡◌, suc, ◌+◌, ◌*◌, ◌<◌, ◌≤◌, ◌∷◌, length, drop, slice_index_or, IfOk, IsSome};
 ghost use Rattle.prta_fewpoints.specs.Wide.{IsWide};
 ghost use Rattle.prta_fewpoints.specs.Recursion.{least_cost, picks};
 ghost use Rattle.prta_fewpoints.specs.Costs.{AreCosts, AreShort};

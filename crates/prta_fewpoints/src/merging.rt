@@ -1,6 +1,6 @@
 //! The table that a choice of times makes.
 
-ghost use Rattle.std.specs.Prelude.{◌≡◌, ◌<◌, ◌^◌, map, IfOk};
+ghost use Rattle.std.specs.Prelude.{◌≡◌, ◌<◌, ◌^◌, IfOk};
 ghost use Rattle.prta_mass.specs.Table.{total};
 ghost use Rattle.prta_fewpoints.specs.Choices.{moved_to, weight_at, merged};
 

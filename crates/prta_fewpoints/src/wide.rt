@@ -1,10 +1,9 @@
 //! Wide tables: the times of a task with their weights, before they are reduced.
 
-ghost use Rattle.std.specs.Prelude.{◌≡◌, ◌≢◌, ◌≤◌, Some, None, length, IfOk, IfErr, IsOk};
-ghost use Rattle.prta_mass.specs.Table.{total, zero_time, zero_weight, not_increasing};
+ghost use Rattle.std.specs.Prelude.{◌≡◌, ◌≢◌, Some, None, IfOk, IfErr, IsOk};
 ghost use Rattle.prta_fewpoints.specs.Wide.{IsWide, wide_fault};
 
-use prta_mass::{TOTAL_LIMIT, TableFault};
+use prta_mass::{TableFault, fault_within};
 use std::alloc::Global;
 use std::marker::Model;
 
@@ -37,7 +36,7 @@ impl WideTable {
         ensures refused { IfErr result (λ fault. fault ≢ TableFault.NoMemory → wide_fault pairs.now ≡ Some fault) }
         ensures memory { result ≡ Err TableFault.NoMemory → wide_fault pairs.now ≡ None }
     {
-        if let Some(fault) = first_fault(pairs) {
+        if let Some(fault) = fault_within(pairs, WIDE_LIMIT) {
             return Err(fault);
         }
         match Vec::from_slice(alloc, pairs) {
@@ -53,59 +52,4 @@ impl WideTable {
     {
         &self.pairs
     }
-}
-
-// The fault of the pairs, without memory.
-fn first_fault(pairs: &[(u32, u64)]) -> Option<TableFault>
-    ensures { result ≡ wide_fault pairs.now }
-{
-    if pairs.is_empty() {
-        return Some(TableFault::Empty);
-    }
-    if pairs.len() > WIDE_LIMIT {
-        return Some(TableFault::TooManyPoints(pairs.len()));
-    }
-    if let Some(i) = first_zero_time(pairs) {
-        return Some(TableFault::ZeroTime(i));
-    }
-    if let Some(i) = first_not_increasing(pairs) {
-        return Some(TableFault::NotIncreasing(i));
-    }
-    if let Some(i) = first_zero_weight(pairs) {
-        return Some(TableFault::ZeroWeight(i));
-    }
-    if total_of(pairs) > TOTAL_LIMIT as u128 {
-        return Some(TableFault::TotalTooLarge);
-    }
-    None
-}
-
-fn first_zero_time(pairs: &[(u32, u64)]) -> Option<usize>
-    ensures { result ≡ zero_time pairs.now }
-{
-    pairs.iter().position(|pair| pair.0 == 0)
-}
-
-fn first_zero_weight(pairs: &[(u32, u64)]) -> Option<usize>
-    ensures { result ≡ zero_weight pairs.now }
-{
-    pairs.iter().position(|pair| pair.1 == 0)
-}
-
-fn first_not_increasing(pairs: &[(u32, u64)]) -> Option<usize>
-    ensures { result ≡ not_increasing pairs.now }
-{
-    for i in 1..pairs.len() {
-        if pairs[i].0 <= pairs[i - 1].0 {
-            return Some(i);
-        }
-    }
-    None
-}
-
-fn total_of(pairs: &[(u32, u64)]) -> u128
-    requires { length pairs.now ≤ 1024 }
-    ensures { result ≡ total pairs.now }
-{
-    pairs.iter().map(|pair| pair.1 as u128).sum()
 }

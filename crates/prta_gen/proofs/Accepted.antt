@@ -1,6 +1,7 @@
 -- Every generated sheet meets the conditions.
 use Rattle.std.proofs.Common.{ℕ, ◌%◌, ◌^◌, ◌≤◌, List, length, refl, arith}
 use Rattle.prta_mass.specs.Table.{FaultlessPairs}
+use Rattle.prta_mass.specs.declared.table.TheConstants.{POINT_LIMIT}
 use Rattle.prta_mass.proofs.Faults.{IsTable-from_none}
 use Rattle.prta_mass.proofs.Faultless.{no_table_fault}
 use Rattle.prta_sheet.specs.Sheet.{Task, Sheet, horizon}
@@ -35,7 +36,7 @@ generated_is_accepted seed n some few =
     }
 
 faultless_pairs : FaultlessPairs
-faultless_pairs pairs = (IsTable-from_none pairs, no_table_fault pairs)
+faultless_pairs pairs = (IsTable-from_none POINT_LIMIT pairs, no_table_fault POINT_LIMIT pairs)
 
 pub generated_are_accepted : GeneratedAreAccepted
 generated_are_accepted seed n some few = faultless faultless_pairs (generated seed n) (generated_is_accepted seed n some few)

@@ -5,6 +5,7 @@ use Rattle.std.proofs.lemmas.List.{length-map}
 use Rattle.std.proofs.lemmas.List.Elements.{All-from_recursion}
 use Rattle.std.proofs.lemmas.List.Sums.{sum_by-cons}
 use Rattle.prta_mass.specs.Table.{total, times, greatest, IsTable, fault_of}
+use Rattle.prta_mass.specs.declared.table.TheConstants.{POINT_LIMIT}
 use Rattle.prta_mass.proofs.Faultless.{no_table_fault}
 use Rattle.prta_sheet.proofs.Each.{Each-weaker}
 use Rattle.prta_gen.specs.Generator.{drawn, state_after, points_from}
@@ -72,7 +73,7 @@ module _ (n x : ℕ) (some : 1 ≤ n) (few : n ≤ 20) where
       }
 
   pub points_have_no_fault : fault_of (points_from n 0 x) ≡ None
-  points_have_no_fault = no_table_fault (points_from n 0 x) points_are_a_table
+  points_have_no_fault = no_table_fault POINT_LIMIT (points_from n 0 x) points_are_a_table
 
   pub short_times : greatest (points_from n 0 x) ≤ 60
   short_times =

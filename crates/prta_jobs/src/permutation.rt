@@ -1,6 +1,6 @@
 //! What makes a list of task numbers an order, and the tasks before one in it.
 
-ghost use Rattle.std.specs.Prelude.{◌≡◌, ℕ, ◌<◌, ◌≤◌, nat_eq, nat_lt, length, count_by};
+ghost use Rattle.std.specs.Prelude.{◌≡◌, ℕ, ◌<◌, nat_eq, nat_lt, length, count_by};
 ghost use Rattle.std.specs.List.{list_all, range_with_len};
 ghost use Rattle.prta_jobs.specs.TaskSet.{holds};
 ghost use Rattle.prta_jobs.specs.Permutation.{stands_once, is_order, is_above, IsOrder};

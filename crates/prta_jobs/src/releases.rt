@@ -1,6 +1,6 @@
 //! When tasks release jobs.
 
-ghost use Rattle.std.specs.Prelude.{◌≡◌, ◌+◌, ◌*◌, ◌^◌, ◌<◌, ◌≤◌, length, true};
+ghost use Rattle.std.specs.Prelude.{◌≡◌, ◌+◌, ◌*◌, ◌^◌, ◌<◌, ◌≤◌, length};
 ghost use Rattle.prta_sheet.specs.Job.{is_release, jobs_before};
 ghost use Rattle.prta_jobs.specs.Ranges.{HasShortPeriod, AreSheetTasks};
 ghost use Rattle.prta_jobs.specs.Instant.{IsNextRelease};

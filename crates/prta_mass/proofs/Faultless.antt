@@ -1,12 +1,11 @@
--- Pairs that make a table have no fault.
+-- Pairs that make a table of at most so many points have no fault.
 use Rattle.std.proofs.Common.{◌≡◌, ℕ, ◌+◌, ◌-◌, ◌<◌, ◌≤◌, Bool, false, nat_lt, nat_eq, Option, None, option_map, position, List, [], ◌∷◌, length, All, refl, le_refl, arith}
 use Rattle.std.specs.List.{position_or_len}
 use Rattle.std.proofs.lemmas.Bool.{le-ltb, lt-leb}
 use Rattle.std.proofs.lemmas.Bool.Decides.{nat_tests}
 use Rattle.std.proofs.lemmas.List.{length-map, get_or-map}
 use Rattle.std.proofs.lemmas.List.Sums.{position_or_len_is}
-use Rattle.prta_mass.specs.Table.{Table, IsTable, times, falls_at, or_else, when, fault_of}
-use Rattle.prta_mass.specs.declared.table.TheConstants.{POINT_LIMIT}
+use Rattle.prta_mass.specs.Table.{Table, IsTableWithin, times, falls_at, or_else, when, fault_within}
 use Rattle.prta_mass.specs.declared.table.TableFault.TheVariants.{Empty, TooManyPoints, ZeroTime, NotIncreasing, ZeroWeight, TotalTooLarge}
 use Rattle.prta_mass.proofs.Find.{find_none_in_range}
 
@@ -27,12 +26,12 @@ module _ {X : Type 0} where
       let none : nat_lt (position_or_len p (x ∷ xs)) (length (x ∷ xs)) ≡ false = grind (arith, nat_tests) in
       rw none refl
 
-pub no_table_fault : (pairs : Table) → IsTable pairs → fault_of pairs ≡ None
-no_table_fault pairs is =
+pub no_table_fault : (most : ℕ) (pairs : Table) → IsTableWithin most pairs → fault_within most pairs ≡ None
+no_table_fault most pairs is =
     let n : ℕ = length pairs in
     both_none _ _
     (both_none (when (nat_eq n 0) Empty) _ (when_false _ _ (let some = is.some in grind (arith, nat_tests)))
-    (both_none (when (nat_lt POINT_LIMIT n) (TooManyPoints n)) _ (when_false _ _ (le-ltb _ _ is.few))
+    (both_none (when (nat_lt most n) (TooManyPoints n)) _ (when_false _ _ (le-ltb _ _ is.few))
     (both_none _ _ (none_mapped ZeroTime _ (no_position (λ (pair : ℕ × ℕ). nat_eq pair.0 0) pairs (λ k d low. let some = is.positive_times k d low in grind (arith, nat_tests))))
     (both_none _ _ (none_mapped NotIncreasing _ (find_none_in_range (falls_at pairs) 1 (n - 1) rises))
     (none_mapped ZeroWeight _ (no_position (λ (pair : ℕ × ℕ). nat_eq pair.1 0) pairs (λ k d low. let some = is.positive_weights k d low in grind (arith, nat_tests))))))))

@@ -1,12 +1,12 @@
--- Pairs with no fault make a table.
+-- Pairs with no fault make a table of at most so many points.
 use Rattle.std.proofs.Common.{◌≡◌, ℕ, ◌+◌, ◌-◌, ◌<◌, Bool, true, false, Option, Some, None, List, length, All, nat_eq, nat_lt, position, option_map, arith, refl}
 use Rattle.std.specs.List.Sorted.{IsStrictlyIncreasing}
 use Rattle.std.proofs.lemmas.Bool.Decides.{nat_tests}
 use Rattle.std.proofs.lemmas.List.Sums.{fails_before_first}
 use Rattle.std.proofs.lemmas.List.{length-map, get_or-map}
-use Rattle.prta_mass.specs.declared.table.TheConstants.{POINT_LIMIT, TOTAL_LIMIT}
+use Rattle.prta_mass.specs.declared.table.TheConstants.{TOTAL_LIMIT}
 use Rattle.prta_mass.specs.declared.table.TableFault.TheVariants.{Empty, TooManyPoints, ZeroTime, NotIncreasing, ZeroWeight, TotalTooLarge}
-use Rattle.prta_mass.specs.Table.{Table, IsTable, shape_fault, fault_of, or_else, when, times, falls_at, not_increasing, zero_time, zero_weight, total}
+use Rattle.prta_mass.specs.Table.{Table, IsTableWithin, shape_within, fault_within, or_else, when, times, falls_at, not_increasing, zero_time, zero_weight, total}
 use Rattle.prta_mass.proofs.Find.{fails_in_range}
 use Rattle.prta_mass.proofs.Totals.{total_positive}
 
@@ -49,15 +49,15 @@ rising pairs h = λ k low.
     let next = get_or-map first pairs (k + 1) (0, 0) 0 (omega arith) in
     rw (here, next) (grind (arith, nat_tests))
 
-pub IsTable-from_none : (pairs : Table) → fault_of pairs ≡ None → IsTable pairs
-IsTable-from_none pairs h =
+pub IsTable-from_none : (most : ℕ) (pairs : Table) → fault_within most pairs ≡ None → IsTableWithin most pairs
+IsTable-from_none most pairs h =
     let n : ℕ = length pairs in
-    let shape = first_none (shape_fault pairs) (when (nat_lt TOTAL_LIMIT (total pairs)) TotalTooLarge) h in
-    let none = five_none (when (nat_eq n 0) Empty) (when (nat_lt POINT_LIMIT n) (TooManyPoints n)) (option_map ZeroTime (zero_time pairs)) (option_map NotIncreasing (not_increasing pairs))
+    let shape = first_none (shape_within most pairs) (when (nat_lt TOTAL_LIMIT (total pairs)) TotalTooLarge) h in
+    let none = five_none (when (nat_eq n 0) Empty) (when (nat_lt most n) (TooManyPoints n)) (option_map ZeroTime (zero_time pairs)) (option_map NotIncreasing (not_increasing pairs))
     (option_map ZeroWeight (zero_weight pairs)) shape in
     let some : nat_eq n 0 ≡ false = when_none _ Empty none.0 in
-    let few : nat_lt POINT_LIMIT n ≡ false = when_none _ (TooManyPoints n) none.1 in
-    let limited : nat_lt TOTAL_LIMIT (total pairs) ≡ false = when_none _ TotalTooLarge (next_none (shape_fault pairs) (when (nat_lt TOTAL_LIMIT (total pairs)) TotalTooLarge) h) in
+    let few : nat_lt most n ≡ false = when_none _ (TooManyPoints n) none.1 in
+    let limited : nat_lt TOTAL_LIMIT (total pairs) ≡ false = when_none _ TotalTooLarge (next_none (shape_within most pairs) (when (nat_lt TOTAL_LIMIT (total pairs)) TotalTooLarge) h) in
     let times_pass = position_none (λ (pair : ℕ × ℕ). nat_eq pair.0 0) pairs (map_none ZeroTime _ none.2) in
     let weights_pass = position_none (λ (pair : ℕ × ℕ). nat_eq pair.1 0) pairs (map_none ZeroWeight _ none.4) in
     let there : 0 < length pairs = grind (arith, nat_tests) in

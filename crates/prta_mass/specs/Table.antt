@@ -26,15 +26,19 @@ times pairs = map (λ pair. pair.0) pairs
 abbrev pub greatest : Table → ℕ
 greatest pairs = (slice_index_or pairs (length pairs - 1) (0, 0)).0
 
--- what holds of every table that is made
-pub record IsTable (pairs : Table) : Type 0 where
+-- pairs that make a table of at most so many points
+pub record IsTableWithin (most : ℕ) (pairs : Table) : Type 0 where
   pub some : 0 < length pairs
-  pub few : length pairs ≤ POINT_LIMIT
+  pub few : length pairs ≤ most
   pub positive_times : All (λ pair. 0 < pair.0) pairs
   pub increasing : IsStrictlyIncreasing (times pairs)
   pub positive_weights : All (λ pair. 0 < pair.1) pairs
   pub weighs : 0 < total pairs
   pub limited : total pairs ≤ TOTAL_LIMIT
+
+-- what holds of every time table that is made
+abbrev pub IsTable : Table → Type 0
+IsTable pairs = IsTableWithin POINT_LIMIT pairs
 
 -- the first of two answers that is there
 abbrev pub or_else : {X : Type 0} → Option X → Option X → Option X
@@ -60,19 +64,29 @@ falls_at pairs i = nat_le (slice_index_or pairs i (0, 0)).0 (slice_index_or pair
 abbrev pub not_increasing : Table → Option ℕ
 not_increasing pairs = find (falls_at pairs) (range_with_len 1 (length pairs - 1))
 
--- what the first test of the pairs that fails says, the weights' sum aside
-abbrev pub shape_fault : Table → Option TableFault
-shape_fault pairs =
+-- what the first test of the pairs that fails says where at most so many are allowed, the weights' sum aside
+abbrev pub shape_within : ℕ → Table → Option TableFault
+shape_within most pairs =
     or_else (when (nat_eq (length pairs) 0) Empty)
-    (or_else (when (nat_lt POINT_LIMIT (length pairs)) (TooManyPoints (length pairs)))
+    (or_else (when (nat_lt most (length pairs)) (TooManyPoints (length pairs)))
     (or_else (option_map ZeroTime (zero_time pairs))
     (or_else (option_map NotIncreasing (not_increasing pairs))
     (option_map ZeroWeight (zero_weight pairs)))))
 
--- what the first test that fails says; none where the pairs make a table
-abbrev pub fault_of : Table → Option TableFault
-fault_of pairs = or_else (shape_fault pairs) (when (nat_lt TOTAL_LIMIT (total pairs)) TotalTooLarge)
+-- what the first test that fails says; none where the pairs make a table of at most so many points
+abbrev pub fault_within : ℕ → Table → Option TableFault
+fault_within most pairs = or_else (shape_within most pairs) (when (nat_lt TOTAL_LIMIT (total pairs)) TotalTooLarge)
 
--- the pairs that make a table are those without a fault
+-- the pairs that make a table of at most so many points are those without a fault
+abbrev pub FaultlessWithin : ℕ → Type 0
+FaultlessWithin most = (pairs : Table) → (fault_within most pairs ≡ None) ↔ IsTableWithin most pairs
+
+-- of a time table
+abbrev pub shape_fault : Table → Option TableFault
+shape_fault pairs = shape_within POINT_LIMIT pairs
+
+abbrev pub fault_of : Table → Option TableFault
+fault_of pairs = fault_within POINT_LIMIT pairs
+
 abbrev pub FaultlessPairs : Type 0
-FaultlessPairs = (pairs : Table) → (fault_of pairs ≡ None) ↔ IsTable pairs
+FaultlessPairs = FaultlessWithin POINT_LIMIT

@@ -22,5 +22,7 @@ pub use divisor::Divisor;
 pub use limits::stated_limits;
 pub use memory::NoMemory;
 pub use support::{Support, is_support};
-pub use table::{POINT_LIMIT, TOTAL_LIMIT, TableFault, TimeTable, faultless_pairs, shape_fault};
+pub use table::{
+    POINT_LIMIT, TOTAL_LIMIT, TableFault, TimeTable, fault_within, faultless_pairs, shape_fault,
+};
 pub use unit::UNIT;

@@ -1,7 +1,7 @@
 //! Time tables: the times of a task with their weights.
 
-ghost use Rattle.std.specs.Prelude.{◌≡◌, ◌≢◌, ℕ, ◌+◌, ◌^◌, ◌<◌, ◌≤◌, Some, None, length, IfOk, IfErr, IsOk};
-ghost use Rattle.prta_mass.specs.Table.{Table, total, mean_times_total, greatest, zero_time, zero_weight, not_increasing, shape_fault, fault_of, IsTable, FaultlessPairs};
+ghost use Rattle.std.specs.Prelude.{◌≡◌, ◌≢◌, ◌+◌, ◌^◌, ◌<◌, ◌≤◌, Some, None, length, IfOk, IfErr, IsOk};
+ghost use Rattle.prta_mass.specs.Table.{Table, total, mean_times_total, greatest, zero_time, zero_weight, not_increasing, shape_within, fault_within, shape_fault, fault_of, IsTable, FaultlessPairs};
 ghost use Rattle.prta_mass.specs.Added.{with_added, IsWithAdded};
 
 use crate::added::put_added;
@@ -67,7 +67,7 @@ impl TimeTable {
         ensures refused { IfErr result (λ fault. fault ≢ TableFault.NoMemory → fault_of pairs.now ≡ Some fault) }
         ensures memory { result ≡ Err TableFault.NoMemory → fault_of pairs.now ≡ None }
     {
-        if let Some(fault) = first_fault(pairs) {
+        if let Some(fault) = fault_within(pairs, POINT_LIMIT) {
             return Err(fault);
         }
         match Vec::from_slice(alloc, pairs) {
@@ -154,10 +154,18 @@ pub fn shape_fault(pairs: &[(u32, u64)]) -> Option<TableFault>
     ensures fault { result ≡ shape_fault pairs.now }
     ensures few { result ≡ None → length pairs.now ≤ POINT_LIMIT }
 {
+    shape_within(pairs, POINT_LIMIT)
+}
+
+// The first fault of the pairs where at most so many are allowed, memory and the sum of the weights aside.
+fn shape_within(pairs: &[(u32, u64)], most: usize) -> Option<TableFault>
+    ensures fault { result ≡ shape_within most pairs.now }
+    ensures few { result ≡ None → length pairs.now ≤ most }
+{
     if pairs.is_empty() {
         return Some(TableFault::Empty);
     }
-    if pairs.len() > POINT_LIMIT {
+    if pairs.len() > most {
         return Some(TableFault::TooManyPoints(pairs.len()));
     }
     if let Some(i) = first_zero_time(pairs) {
@@ -172,11 +180,13 @@ pub fn shape_fault(pairs: &[(u32, u64)]) -> Option<TableFault>
     None
 }
 
-// The fault of the pairs, without memory.
-fn first_fault(pairs: &[(u32, u64)]) -> Option<TableFault>
-    ensures { result ≡ fault_of pairs.now }
+/// The first fault of the pairs, memory aside, where a table has at most so many: that of `TimeTable::new` where that is
+/// `POINT_LIMIT`.
+pub fn fault_within(pairs: &[(u32, u64)], most: usize) -> Option<TableFault>
+    requires { most ≤ 65536 }
+    ensures { result ≡ fault_within most pairs.now }
 {
-    if let Some(fault) = shape_fault(pairs) {
+    if let Some(fault) = shape_within(pairs, most) {
         return Some(fault);
     }
     if total_of(pairs) > TOTAL_LIMIT as u128 {
@@ -209,7 +219,7 @@ fn first_not_increasing(pairs: &[(u32, u64)]) -> Option<usize>
 }
 
 fn total_of(pairs: &[(u32, u64)]) -> u128
-    requires { length pairs.now ≤ 32 }
+    requires { length pairs.now ≤ 65536 }
     ensures { result ≡ total pairs.now }
 {
     pairs.iter().map(|pair| pair.1 as u128).sum()

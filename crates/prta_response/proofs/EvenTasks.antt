@@ -4,6 +4,7 @@ use Rattle.std.proofs.lemmas.Bool.Decides.{nat_tests}
 use Rattle.std.proofs.lemmas.List.Elements.{All-from_recursion}
 use Rattle.prta_mass.specs.Table.{IsTable}
 use Rattle.prta_mass.specs.declared.direction.Dir.TheVariants.{Up, Down}
+use Rattle.prta_mass.specs.declared.table.TheConstants.{POINT_LIMIT}
 use Rattle.prta_mass.proofs.Faults.{IsTable-from_none}
 use Rattle.prta_sheet.specs.Sheet.{Task}
 use Rattle.prta_sheet.specs.Job.{nth_job}
@@ -20,7 +21,7 @@ level_is = record {
   tables = record {
     some = All-from_recursion (λ (task : Task). 0 < length task.cycle) (even 7) (omega arith, (omega arith, tt));
     tables = All-from_recursion (λ (task : Task). All IsTable task.cycle) (even 7)
-        (All-from_recursion IsTable (((1, 1) ∷ (2, 1) ∷ []) ∷ []) (IsTable-from_none _ refl, tt), (All-from_recursion IsTable (((2, 1) ∷ (4, 1) ∷ []) ∷ []) (IsTable-from_none _ refl, tt), tt));
+        (All-from_recursion IsTable (((1, 1) ∷ (2, 1) ∷ []) ∷ []) (IsTable-from_none POINT_LIMIT _ refl, tt), (All-from_recursion IsTable (((2, 1) ∷ (4, 1) ∷ []) ∷ []) (IsTable-from_none POINT_LIMIT _ refl, tt), tt));
   };
   periodic = All-from_recursion IsPeriodic (even 7) (record { offset = omega arith; deadline = omega arith }, (record { offset = omega arith; deadline = omega arith }, tt));
   own = omega arith;

@@ -4,6 +4,5 @@ pub mod Coming
 pub mod Reach
 pub mod Backlog
 pub mod Chance
-pub mod Fitting
 pub mod Laws
 pub mod Worked

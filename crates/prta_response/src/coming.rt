@@ -1,8 +1,7 @@
 //! The jobs that delay a response, one after the other.
 
-ghost use Rattle.std.specs.Prelude.{◌≡◌, ℕ, ◌+◌, ◌-◌, ◌/◌, ◌^◌, ◌<◌, ◌≤◌, true, false, [], ◌∷◌, filter, length, MatchOption};
-ghost use Rattle.prta_sheet.specs.Sheet.{task_at};
-ghost use Rattle.prta_sheet.specs.Job.{is_release, released_at};
+ghost use Rattle.std.specs.Prelude.{◌≡◌, ℕ, ◌-◌, ◌/◌, ◌^◌, ◌<◌, ◌≤◌, true, false, [], filter, length, MatchOption};
+ghost use Rattle.prta_sheet.specs.Job.{released_at};
 ghost use Rattle.prta_jobs.specs.TaskSet.{holds};
 ghost use Rattle.prta_jobs.specs.Instant.{IsOnSheet};
 ghost use Rattle.prta_backlog.specs.Level.{has_task, delaying};

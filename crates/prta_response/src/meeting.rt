@@ -4,15 +4,13 @@ ghost use Rattle.std.specs.Prelude.{◌≡◌, ◌+◌, ◌-◌, ◌<◌, ◌≤
 ghost use Rattle.prta_mass.specs.Unit.{unit};
 ghost use Rattle.prta_mass.specs.Chances.{at, IsChances};
 ghost use Rattle.prta_mass.specs.Table.{IsTable};
-ghost use Rattle.prta_sheet.specs.Sheet.{task_at};
 ghost use Rattle.prta_sheet.specs.Job.{table_of};
 ghost use Rattle.prta_jobs.specs.TaskSet.{holds};
 ghost use Rattle.prta_jobs.specs.Instant.{IsOnSheet};
 ghost use Rattle.prta_preempt.specs.Delay.{delayed};
-ghost use Rattle.prta_preempt.specs.Laws.{KeptByDelay};
 ghost use Rattle.prta_backlog.specs.Level.{has_task, delaying};
 ghost use Rattle.prta_backlog.specs.Pass.{level_of};
-ghost use Rattle.prta_response.specs.Response.{all_delayed, delaying_jobs, meeting_cell};
+ghost use Rattle.prta_response.specs.Response.{all_delayed, meeting_cell};
 ghost use Rattle.prta_response.specs.Reach.{least, Suffices};
 
 use crate::coming::Coming;

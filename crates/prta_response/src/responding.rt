@@ -2,7 +2,6 @@
 
 ghost use Rattle.std.specs.Prelude.{◌≡◌, ◌+◌, ◌<◌, ◌≤◌, false, length, vec_len};
 ghost use Rattle.prta_mass.specs.Unit.{unit};
-ghost use Rattle.prta_sheet.specs.Sheet.{task_at};
 ghost use Rattle.prta_sheet.specs.Job.{nth_job};
 ghost use Rattle.prta_sheet.specs.Counts.{job_count};
 ghost use Rattle.prta_jobs.specs.TaskSet.{holds};
@@ -13,7 +12,7 @@ ghost use Rattle.prta_backlog.specs.AreNoted.{AreNoted};
 ghost use Rattle.prta_backlog.specs.Pass.{level_of};
 ghost use Rattle.prta_response.specs.Response.{delaying_jobs, meeting_cell};
 ghost use Rattle.prta_response.specs.Delays.{response_delays, delay_entries};
-ghost use Rattle.prta_response.specs.Fitting.{FitsCap};
+ghost use Rattle.prta_backlog.specs.Fitting.{FitsCap};
 
 use crate::delaying::Delayed;
 use crate::meeting::meet;

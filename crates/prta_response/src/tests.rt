@@ -1,10 +1,10 @@
 //! Response runs of worked sheets, on curves that keep every cell.
 
-ghost use Rattle.std.specs.Prelude.{vec_len, IfOk};
-ghost use Rattle.prta_response.specs.Fitting.{FitsCap};
+ghost use Rattle.std.specs.Prelude.{vec_len};
+ghost use Rattle.prta_backlog.specs.Fitting.{FitsCap};
 
 use super::*;
-use prta_backlog::{Bench, LevelPass};
+use prta_backlog::{Bench, LevelPass, bench_for};
 use prta_convplain::Plain;
 use prta_dist::{Curve, Dense};
 use prta_jobs::{TaskSet, jobs_before, release};
@@ -69,7 +69,7 @@ static NUMBERS: [(&[u8], Dir, u64, usize); 14] = [
 fn numbers_and_delays(rt: HostRuntime) -> Result<(), Fail> {
     for (text, dir, number, rounded) in NUMBERS.iter() {
         let sheet = read_sheet(rt.alloc(), text)?;
-        let mut bench = bench_of(rt.alloc(), &sheet)?;
+        let mut bench = bench_for(rt.alloc(), &sheet, Plain)?;
         let mut ledger = Ledger::with_room(rt.alloc(), 10)?;
         let found = number_of(rt.alloc(), &mut bench, &sheet, *dir, &mut ledger)?;
         assert!(rt; found == Some(*number));
@@ -102,7 +102,7 @@ fn are_delays(entries: &[Entry], dir: Dir, count: usize) -> bool {
 #[test]
 fn the_main_curve_stays(rt: HostRuntime) -> Result<(), Fail> {
     let sheet = read_sheet(rt.alloc(), DUE_AT_7)?;
-    let mut bench = bench_of(rt.alloc(), &sheet)?;
+    let mut bench = bench_for(rt.alloc(), &sheet, Plain)?;
     let found = number_of(rt.alloc(), &mut bench, &sheet, Up, &mut NoNotes)?;
     assert!(rt; found == Some(EIGHTH));
     // The backlog right after the first two jobs' release is 3 to 6 ticks, each with the chance a quarter.
@@ -113,17 +113,6 @@ fn the_main_curve_stays(rt: HostRuntime) -> Result<(), Fail> {
         assert!(rt; bench.main.at(k) == *cell);
     }
     Ok(())
-}
-
-fn bench_of(alloc: Global, sheet: &Sheet) -> Result<Bench<Dense<Plain>, Plain>, NoMemory>
-    ensures { IfOk result (λ bench. FitsCap sheet.now.settings.cap bench.main bench.spare bench.kept (vec_len bench.cells) (vec_len bench.tail) (vec_len bench.room)) }
-{
-    let _settings = sheet.settings();
-    let cap = sheet.cap();
-    let main = Dense::new(alloc, Plain, cap)?;
-    let spare = Dense::new(alloc, Plain, cap)?;
-    let kept = Dense::new(alloc, Plain, cap)?;
-    Bench::new(alloc, main, spare, kept, Plain)
 }
 
 // The number of the first job of the second task, below the first, where the sheet has one and there is room to note its

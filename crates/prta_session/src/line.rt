@@ -1,7 +1,6 @@
 //! A line that is tried on the sheet as the lines before leave it.
 
 ghost use Rattle.std.specs.Prelude.{◌≡◌, ◌<◌, length, IfOk};
-ghost use Rattle.prta_session.specs.Saying.{edit_from};
 ghost use Rattle.prta_session.specs.Script.{after_line};
 ghost use Rattle.prta_session.specs.Reading.{IsEditOf, IsChangeMade, IsLineRead};
 

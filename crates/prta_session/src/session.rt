@@ -1,6 +1,6 @@
 //! Sessions.
 
-ghost use Rattle.std.specs.Prelude.{◌≡◌, ℕ, ◌+◌, ◌<◌, ◌≤◌, true, None, Some, length, IsOk, IfOk, IfErr, OnOk, OnErr};
+ghost use Rattle.std.specs.Prelude.{◌≡◌, ◌+◌, ◌<◌, ◌≤◌, true, None, Some, length, IsOk, IfOk, IfErr, OnOk, OnErr};
 ghost use Rattle.prta_sheet.specs.Edits.{task_of, edit_fault};
 ghost use Rattle.prta_backlog.specs.Level.{sheet_level};
 ghost use Rattle.prta_dual.specs.Numbers.{all_bounds};

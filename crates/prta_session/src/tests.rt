@@ -1,16 +1,14 @@
 //! Scripts and sessions on worked sheets, on curves that keep every cell.
 
-ghost use Rattle.std.specs.Prelude.{◌≡◌, ◌*◌, ◌<◌, ◌≤◌, length, vec_len, IfOk, OnOk};
-ghost use Rattle.prta_response.specs.Fitting.{FitsCap};
+ghost use Rattle.std.specs.Prelude.{◌≡◌, ◌*◌, ◌<◌, ◌≤◌, length, OnOk};
 ghost use Rattle.prta_session.specs.Playing.{AreAccepted, print_count, tasks_analysed};
 ghost use Rattle.prta_session.specs.Workers.{lengthened};
 
 use super::*;
-use prta_backlog::Bench;
+use prta_backlog::bench_for;
 use prta_convplain::Plain;
-use prta_dist::Dense;
 use prta_mass::NoMemory;
-use prta_sheet::{Sheet, read_sheet};
+use prta_sheet::read_sheet;
 use std::alloc::Global;
 use std::test::Fail;
 
@@ -125,7 +123,7 @@ fn plays(alloc: Global, bytes: &[u8], list: &[usize], numbers: &[(u64, u64)]) ->
     let Ok(script) = read_script(alloc, &sheet, bytes) else {
         return false;
     };
-    let Ok(bench) = bench_of(alloc, &sheet) else {
+    let Ok(bench) = bench_for(alloc, &sheet, Plain) else {
         return false;
     };
     let room = sheet.tasks().len() * script.prints();
@@ -183,18 +181,4 @@ fn push_numbers(
         }
     }
     Ok(())
-}
-
-// A bench for the sheet.
-fn bench_of(alloc: Global, sheet: &Sheet) -> Result<Bench<Dense<Plain>, Plain>, NoMemory>
-    ensures cap { IfOk result (λ bench. length bench.main ≡ sheet.now.settings.cap) }
-    ensures fits { IfOk result (λ bench. FitsCap (length bench.main) bench.main bench.spare bench.kept (vec_len bench.cells) (vec_len bench.tail) (vec_len bench.room)) }
-{
-    let _settings = sheet.settings();
-    let cap = sheet.cap();
-    let main = Dense::new(alloc, Plain, cap)?;
-    let spare = Dense::new(alloc, Plain, cap)?;
-    let kept = Dense::new(alloc, Plain, cap)?;
-    let bench = Bench::new(alloc, main, spare, kept, Plain)?;
-    Ok(bench)
 }

@@ -1,9 +1,9 @@
 //! What analyses tasks.
 
-ghost use Rattle.std.specs.Prelude.{◌≡◌, ℕ, ◌+◌, ◌-◌, ◌^◌, ◌<◌, ◌≤◌, Option, Some, None, List, [], ◌∷◌, ◌++◌, length, vec_len, IfOk};
+ghost use Rattle.std.specs.Prelude.{◌≡◌, ℕ, ◌+◌, ◌-◌, ◌^◌, ◌<◌, ◌≤◌, Option, Some, None, List, [], ◌∷◌, length, vec_len, IfOk};
 ghost use Rattle.prta_sheet.specs.Counts.{job_count};
 ghost use Rattle.prta_backlog.specs.Level.{sheet_level};
-ghost use Rattle.prta_response.specs.Fitting.{FitsCap};
+ghost use Rattle.prta_backlog.specs.Fitting.{FitsCap};
 ghost use Rattle.prta_dual.specs.Numbers.{all_bounds};
 ghost use Rattle.prta_session.specs.Workers.{lengthened};
 
@@ -54,7 +54,7 @@ pub struct BenchWorker<C: Curve, K: Kernel> {
 
 impl<C: Curve, K: Kernel> Model for BenchWorker<C, K> {
     ghost use Rattle.std.specs.Prelude.{ℕ, length, vec_len};
-    ghost use Rattle.prta_response.specs.Fitting.{FitsCap};
+    ghost use Rattle.prta_backlog.specs.Fitting.{FitsCap};
 
     ghost Value = { ℕ };
 

@@ -1,6 +1,6 @@
 //! The conditions on the parts of a sheet, each over all tasks before the next.
 
-ghost use Rattle.std.specs.Prelude.{◌≡◌, ◌≤◌, ◌<◌, nat_lt, Some, None, false, length, All, IsOk, IfOk, IfErr, IfSome};
+ghost use Rattle.std.specs.Prelude.{◌≡◌, ◌≤◌, ◌<◌, Some, None, false, length, All, IsOk, IfOk, IfErr, IfSome};
 ghost use Rattle.std.specs.List.{list_all, list_any, range_with_len};
 ghost use Rattle.prta_mass.specs.Table.{or_else, fault_of};
 ghost use Rattle.prta_sheet.specs.Sheet.{task_at, cycle_ticks, hyperperiod as hyperperiod_of, least_common_multiple};

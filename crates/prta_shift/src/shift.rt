@@ -1,6 +1,6 @@
 //! The shift of cells, in place and into another list.
 
-ghost use Rattle.std.specs.Prelude.{◌≡◌, ℕ, ◌+◌, ◌<◌, ◌≤◌, min, length};
+ghost use Rattle.std.specs.Prelude.{◌≡◌, ◌+◌, ◌<◌, min, length};
 ghost use Rattle.prta_shift.specs.Shift.{shifted};
 
 /// Shifts the cells by t ticks. Where t is past the end, each becomes the last one.

@@ -2,7 +2,7 @@
 
 ghost use Rattle.std.specs.Prelude.{◌≡◌, ◌+◌, ◌<◌, ◌≤◌, true, false, IfOk, IfErr, length, vec_len};
 ghost use Rattle.prta_sheet.specs.Added.{IsSheetWithAdded};
-ghost use Rattle.prta_response.specs.Fitting.{FitsCap};
+ghost use Rattle.prta_backlog.specs.Fitting.{FitsCap};
 ghost use Rattle.prta_slack.specs.Passing.{passes_with};
 ghost use Rattle.prta_slack.specs.Answer.{room_of, slack_of, IsExactly, Says};
 

@@ -1,15 +1,9 @@
 //! The slack of worked sheets, on curves that keep every cell.
 
-ghost use Rattle.std.specs.Prelude.{vec_len, IfOk};
-ghost use Rattle.prta_response.specs.Fitting.{FitsCap};
-
 use super::*;
-use prta_backlog::Bench;
+use prta_backlog::bench_for;
 use prta_convplain::Plain;
-use prta_dist::{Curve, Dense};
-use prta_mass::NoMemory;
-use prta_sheet::{Sheet, read_sheet};
-use std::alloc::Global;
+use prta_sheet::read_sheet;
 use std::test::Fail;
 
 const EIGHTH: u64 = 144_115_188_075_855_872;
@@ -102,7 +96,7 @@ fn tasks_have_their_slack(rt: HostRuntime) -> Result<(), Fail> {
         let sheet = read_sheet(rt.alloc(), text)?;
         assert!(rt; answers.len() == sheet.tasks().len(), "sheet {i}");
         for (task, want) in answers.iter().enumerate() {
-            let mut bench = bench_of(rt.alloc(), &sheet)?;
+            let mut bench = bench_for(rt.alloc(), &sheet, Plain)?;
             let slack = find_slack(rt.alloc(), &mut bench, &sheet, task)?;
             assert!(rt; is_same(slack, *want), "sheet {i} task {task}");
         }
@@ -129,17 +123,4 @@ fn is_same(slack: Slack, want: Slack) -> bool {
         (Slack::All(s), Slack::All(t)) => s == t,
         _ => false,
     }
-}
-
-// A bench for the sheet.
-fn bench_of(alloc: Global, sheet: &Sheet) -> Result<Bench<Dense<Plain>, Plain>, NoMemory>
-    ensures { IfOk result (λ bench. FitsCap sheet.now.settings.cap bench.main bench.spare bench.kept (vec_len bench.cells) (vec_len bench.tail) (vec_len bench.room)) }
-{
-    let _settings = sheet.settings();
-    let cap = sheet.cap();
-    let main = Dense::new(alloc, Plain, cap)?;
-    let spare = Dense::new(alloc, Plain, cap)?;
-    let kept = Dense::new(alloc, Plain, cap)?;
-    let bench = Bench::new(alloc, main, spare, kept, Plain)?;
-    Ok(bench)
 }

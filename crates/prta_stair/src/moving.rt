@@ -1,6 +1,6 @@
 //! Lists whose steps move: shifted and re-sampled ones.
 
-ghost use Rattle.std.specs.Prelude.{◌≡◌, ℕ, ◌<◌, ◌≤◌, length, take};
+ghost use Rattle.std.specs.Prelude.{◌≡◌, ◌<◌, ◌≤◌, length, take};
 ghost use Rattle.prta_mass.specs.declared.direction.Dir.TheVariants.{Up, Down};
 ghost use Rattle.prta_shift.specs.Shift.{shifted};
 ghost use Rattle.prta_resample.specs.Resample.{read_place, resampled, moved_amount};

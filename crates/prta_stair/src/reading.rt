@@ -1,6 +1,6 @@
 //! The value of a list at a place, by its steps.
 
-ghost use Rattle.std.specs.Prelude.{◌≡◌, ℕ, ◌+◌, ◌<◌, ◌≤◌, ◌^◌, length};
+ghost use Rattle.std.specs.Prelude.{◌≡◌, ◌+◌, ◌<◌, ◌≤◌, ◌^◌, length};
 ghost use Rattle.prta_mass.specs.Chances.{before};
 ghost use Rattle.prta_stair.specs.Steps.{value_at, cells_by_steps, place, AreRising};
 ghost use Rattle.prta_stair.specs.Reading.{level, IsReached};

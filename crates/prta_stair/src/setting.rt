@@ -7,7 +7,6 @@ ghost use Rattle.prta_mass.specs.declared.direction.Dir.TheVariants.{Down};
 ghost use Rattle.prta_dist.specs.Addition.{settled};
 ghost use Rattle.prta_dist.specs.Curve.{lower, raise};
 ghost use Rattle.prta_stair.specs.Steps.{value_at, cells_by_steps, place, height, AreSteps};
-ghost use Rattle.prta_stair.specs.Reading.{level};
 ghost use Rattle.prta_stair.specs.Setting.{IsPut};
 
 use crate::reading::{last_of, seek, value};

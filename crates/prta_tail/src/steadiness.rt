@@ -1,10 +1,10 @@
 //! The tail numbers of a task's jobs.
 
-ghost use Rattle.std.specs.Prelude.{◌≡◌, ℕ, ◌/◌, ◌<◌, min, map, length, vec_len, slice_index_or};
+ghost use Rattle.std.specs.Prelude.{◌≡◌, ◌/◌, ◌<◌, min, map, length, vec_len, slice_index_or};
 ghost use Rattle.std.specs.List.{range_with_len};
 ghost use Rattle.prta_sheet.specs.Sheet.{task_at, hyperperiod};
 ghost use Rattle.prta_sheet.specs.Job.{nth_job};
-ghost use Rattle.prta_response.specs.Fitting.{FitsCap};
+ghost use Rattle.prta_backlog.specs.Fitting.{FitsCap};
 ghost use Rattle.prta_backlog.specs.Level.{sheet_level};
 ghost use Rattle.prta_certificate.specs.Certificate.{next_image, steady_number};
 ghost use Rattle.prta_tail.specs.Tail.{tail_number};

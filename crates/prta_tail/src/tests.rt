@@ -1,15 +1,13 @@
 //! Walks and tail numbers of worked sheets, on curves that keep every cell.
 
-ghost use Rattle.std.specs.Prelude.{◌≡◌, vec_len, IfOk};
-ghost use Rattle.prta_response.specs.Fitting.{FitsCap};
+ghost use Rattle.std.specs.Prelude.{vec_len};
+ghost use Rattle.prta_backlog.specs.Fitting.{FitsCap};
 
 use super::*;
-use prta_backlog::Bench;
+use prta_backlog::{Bench, bench_for};
 use prta_convplain::Plain;
 use prta_dist::{Curve, Dense};
-use prta_mass::NoMemory;
 use prta_sheet::{Sheet, read_sheet};
-use std::alloc::Global;
 use std::test::Fail;
 
 const HALF: u64 = 576_460_752_303_423_488;
@@ -68,7 +66,7 @@ static ROWS: [Row; 5] = [
 fn levels_have_their_tails(rt: HostRuntime) -> Result<(), Fail> {
     for (i, (text, task, (p, q), cells, numbers)) in ROWS.iter().enumerate() {
         let sheet = read_sheet(rt.alloc(), text)?;
-        let mut bench = bench_of(rt.alloc(), &sheet)?;
+        let mut bench = bench_for(rt.alloc(), &sheet, Plain)?;
         let want = Ratio { p: *p, q: *q };
         assert!(rt;
             is_row(&mut bench, &sheet, *task, want, cells, numbers),
@@ -111,17 +109,4 @@ fn is_row(
         same = same && k < 4 && found[k] == numbers[k];
     }
     same
-}
-
-// A bench for the sheet.
-fn bench_of(alloc: Global, sheet: &Sheet) -> Result<Bench<Dense<Plain>, Plain>, NoMemory>
-    ensures { IfOk result (λ bench. FitsCap sheet.now.settings.cap bench.main bench.spare bench.kept (vec_len bench.cells) (vec_len bench.tail) (vec_len bench.room)) }
-{
-    let _settings = sheet.settings();
-    let cap = sheet.cap();
-    let main = Dense::new(alloc, Plain, cap)?;
-    let spare = Dense::new(alloc, Plain, cap)?;
-    let kept = Dense::new(alloc, Plain, cap)?;
-    let bench = Bench::new(alloc, main, spare, kept, Plain)?;
-    Ok(bench)
 }

@@ -3,9 +3,10 @@ use Rattle.std.proofs.Common.{◌≡◌, ℕ, ◌<◌, ◌≤◌, Bool, true, fa
 use Rattle.std.specs.List.{list_any, AllByRecursion as Each}
 use Rattle.std.proofs.lemmas.Bool.{cases_order}
 use Rattle.std.proofs.lemmas.List.Elements.{All-from_recursion, recursion_from_All}
-use Rattle.prta_mass.specs.Table.{Table, times, total}
+use Rattle.prta_mass.specs.Table.{Table, IsTableWithin, times, total}
 use Rattle.std.specs.List.Sorted.{IsStrictlyIncreasing}
-use Rattle.prta_mass.specs.declared.table.TheConstants.{TOTAL_LIMIT}
+use Rattle.prta_mass.specs.declared.table.TheConstants.{POINT_LIMIT, TOTAL_LIMIT}
+use Rattle.prta_fewpoints.specs.declared.wide.TheConstants.{WIDE_LIMIT}
 use Rattle.prta_mass.proofs.Totals.{total_positive}
 use Rattle.prta_number.specs.Decimal.{number_within}
 use Rattle.prta_number.proofs.Numbers.{read_number}
@@ -98,13 +99,16 @@ module _ (name : List ℕ) where
     weigh : All (λ pair. 0 < pair.1) (counted name counts)
     weigh k d low = (good_points k d low).some_weight
 
-    pub makes_points : (points : Points) → CanAsk points → list_any (is_of name) counts ≡ true → length (counted name counts) ≤ most_times points → total (counted name counts) ≤ TOTAL_LIMIT →
-        CanMake points (counted name counts)
-    makes_points Every asked any few limited =
+    made_within : (most : ℕ) → list_any (is_of name) counts ≡ true → length (counted name counts) ≤ most → total (counted name counts) ≤ TOTAL_LIMIT → IsTableWithin most (counted name counts)
+    made_within most any few limited =
         let some : 0 < length (counted name counts) = some_after [] counts (inl any) in
         record { some = some; few = few; positive_times = positive; increasing = rising; positive_weights = weigh; weighs = total_positive (counted name counts) some weigh; limited = limited }
+
+    pub makes_points : (points : Points) → CanAsk points → list_any (is_of name) counts ≡ true → length (counted name counts) ≤ most_times points → total (counted name counts) ≤ TOTAL_LIMIT →
+        CanMake points (counted name counts)
+    makes_points Every asked any few limited = made_within POINT_LIMIT any few limited
     makes_points (AtMost k) asked any few limited = record {
-      wide = record { some = some_after [] counts (inl any); few = few; positive_times = positive; increasing = rising; positive_weights = weigh; limited = limited };
+      wide = made_within WIDE_LIMIT any few limited;
       some = asked.0;
       few = asked.1;
       short = λ k d low. (good_points k d low).short;

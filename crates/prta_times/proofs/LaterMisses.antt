@@ -1,19 +1,18 @@
 -- Moving the weights of the tables to later times lowers no exact chance.
-use Rattle.std.proofs.Common.{◌≡◌, ℕ, zero, suc, ◌+◌, ◌-◌, ◌*◌, ◌%◌, ◌≤◌, ◌<◌, true, nat_lt, List, [], ◌∷◌, ◌++◌, sum_by, length, get_or, All, Contains, refl, ap, sym, ◌∙◌, subst, arith, ⊎_elim, mul-le-mul_left, inl, inr, add-zero, add-suc}
+use Rattle.std.proofs.Common.{◌≡◌, ℕ, zero, suc, ◌+◌, ◌-◌, ◌*◌, ◌%◌, ◌≤◌, ◌<◌, true, nat_lt, List, [], ◌∷◌, sum_by, length, get_or, Contains, refl, ap, sym, ◌∙◌, subst, arith, ⊎_elim, mul-le-mul_left, add-zero, add-suc}
 use Rattle.std.specs.List.{AllByRecursion as Each}
 use Rattle.std.proofs.lemmas.Bool.Decides.{nat_tests}
 use Rattle.std.proofs.lemmas.List.Elements.{All-from_recursion, recursion_from_All, All-contains, Contains-append_left, Contains-append_right, Contains-append_cases}
 use Rattle.std.proofs.lemmas.List.Sums.{sum_by-cons}
-use Rattle.prta_mass.specs.Table.{Table, IsTable}
+use Rattle.prta_mass.specs.Table.{Table}
 use Rattle.prta_fewpoints.specs.Laws.{IsMovedUp}
-use Rattle.prta_sheet.specs.Sheet.{Task, Sheet, task_at, horizon}
-use Rattle.prta_sheet.specs.Job.{Job, table_of, deadline_of, released_at, jobs_before, analysed_jobs}
+use Rattle.prta_sheet.specs.Sheet.{Task, task_at, horizon}
+use Rattle.prta_sheet.specs.Job.{Job, table_of, deadline_of, released_at, jobs_before}
 use Rattle.prta_sheet.specs.Assignment.{Timed}
 use Rattle.prta_sheet.specs.Machine.{misses}
 use Rattle.prta_sheet.specs.Chance.{miss_weight}
-use Rattle.prta_sheet.specs.Accepted.{IsTask, IsAccepted}
+use Rattle.prta_sheet.specs.Accepted.{IsTask}
 use Rattle.prta_sheet.specs.Weights.{one_if, weigh, jobs_of}
-use Rattle.prta_sheet.proofs.Each.{Each-weaker}
 use Rattle.prta_sheet.proofs.Weighing.{listed_passing}
 use Rattle.prta_jobs.specs.Permutation.{is_order}
 use Rattle.prta_jobs.specs.Backlog.{finish_by_backlog}
@@ -21,7 +20,7 @@ use Rattle.prta_jobs.specs.Laws.{IsBefore, JobsAreBefore}
 use Rattle.prta_ticksim.specs.ScheduleToBacklog.{IsListed, ScheduleToBacklog}
 use Rattle.prta_ticksim.proofs.JobOrder.{IsReleased, released_at_is}
 use Rattle.prta_times.specs.LaterTimes.{Both, IsLater, TakeTime, IsNoGreaterChance, LaterTimesLowerNoChance}
-use Rattle.prta_times.proofs.LaterTasks.{Both_length, task_later, table_later, jobs_until_later, deadline_later, chance_totals}
+use Rattle.prta_times.proofs.LaterTasks.{table_later, jobs_until_later, deadline_later, chance_totals}
 use Rattle.prta_times.proofs.LaterFinishes.{IsTimedLater, finish_later}
 
 -- ---- weighed sums

@@ -1,5 +1,5 @@
 -- Tasks that differ in their tables alone release the same jobs, and the totals of their tables agree.
-use Rattle.std.proofs.Common.{◌≡◌, ℕ, zero, suc, ◌+◌, ◌*◌, ◌%◌, List, [], ◌∷◌, ◌++◌, length, get_or, sum_by, refl, ap, ap₂, sym, ◌∙◌, subst, arith}
+use Rattle.std.proofs.Common.{◌≡◌, ℕ, zero, suc, ◌+◌, ◌*◌, ◌%◌, List, [], ◌∷◌, ◌++◌, length, get_or, refl, ap, ap₂, sym, ◌∙◌, subst, arith}
 use Rattle.prta_mass.specs.Table.{Table, total}
 use Rattle.prta_fewpoints.specs.Laws.{IsMovedUp}
 use Rattle.prta_sheet.specs.Sheet.{Task, task_at}

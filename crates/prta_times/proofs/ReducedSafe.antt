@@ -1,13 +1,13 @@
 -- Reduced tables are those that were counted, with weights moved to later times.
-use Rattle.std.proofs.Common.{◌≡◌, ℕ, ◌<◌, ◌≤◌, Bool, true, false, if◌then◌else◌, List, [], ◌∷◌, length, get_or, map, All, Contains, refl, arith}
+use Rattle.std.proofs.Common.{◌≡◌, ℕ, ◌≤◌, Bool, true, false, if◌then◌else◌, List, [], ◌∷◌, get_or, map, All, refl, arith}
 use Rattle.std.specs.List.{list_any, AllByRecursion as Each}
 use Rattle.std.proofs.lemmas.List.{length-map, get_or-map}
 use Rattle.std.proofs.lemmas.List.Elements.{recursion_from_All}
 use Rattle.prta_mass.specs.Table.{Table, IsTable, times}
 use Rattle.prta_fewpoints.specs.Recursion.{reduced}
 use Rattle.prta_fewpoints.specs.Laws.{IsMovedUp, ReductionIsSafe}
-use Rattle.prta_sheet.specs.Sheet.{Task, Sheet}
-use Rattle.prta_sheet.specs.Accepted.{IsTask, IsAccepted}
+use Rattle.prta_sheet.specs.Sheet.{Task}
+use Rattle.prta_sheet.specs.Accepted.{IsTask}
 use Rattle.prta_sheet.proofs.Each.{Each-weaker}
 use Rattle.prta_times.specs.declared.points.Points.TheVariants.{Every, AtMost}
 use Rattle.prta_times.specs.Counts.{Count, records_in, later_records, counts_in, is_of, counted, with_counted, sheet_with, reduced_sheet}

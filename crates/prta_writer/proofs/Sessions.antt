@@ -1,8 +1,6 @@
 -- Scripts that are played line by line.
-use Rattle.std.proofs.Common.{◌≡◌, ℕ, suc, ◌+◌, ◌*◌, ◌≤◌, ◌++◌, Option, List, [], ◌∷◌, length, flat_map, append-nil, append_assoc, refl, ap, sym, subst, ◌∙◌, arith}
-use Rattle.prta_sheet.specs.declared.edit.Edit.{Edit}
+use Rattle.std.proofs.Common.{◌≡◌, ℕ, suc, ◌+◌, ◌*◌, ◌≤◌, ◌++◌, Option, List, [], ◌∷◌, length, append_assoc, refl, ap, sym, subst, ◌∙◌, arith}
 use Rattle.prta_sheet.specs.Sheet.{Sheet}
-use Rattle.prta_sheet.specs.Edits.{edited}
 use Rattle.prta_session.specs.declared.script.Line.{Line}
 use Rattle.prta_session.specs.declared.script.Line.TheVariants.{Print, Change}
 use Rattle.prta_session.specs.State.{SessionState}

@@ -4,7 +4,7 @@ use Rattle.std.specs.List.{range_with_len}
 use Rattle.prta_mass.specs.declared.support.Support.{Support}
 use Rattle.prta_mass.specs.Support.{is_support}
 use Rattle.prta_sheet.specs.Sheet.{Sheet}
-use Rattle.prta_response.specs.Fitting.{FitsCap}
+use Rattle.prta_backlog.specs.Fitting.{FitsCap}
 use Rattle.prta_writer.specs.declared.curves.TheConstants.{FEW_POINTS}
 use Rattle.prta_writer.specs.declared.curves.Kind.{Kind}
 use Rattle.prta_writer.specs.declared.curves.Kind.TheVariants as kind

@@ -6,7 +6,7 @@ ghost use Rattle.prta_sheet.specs.Weights.{one_if};
 ghost use Rattle.prta_sheet.specs.declared.limits.TheConstants.{JOB_LIMIT};
 ghost use Rattle.prta_outside.specs.Sink.{HasRisen};
 ghost use Rattle.prta_backlog.specs.Room.{room_for};
-ghost use Rattle.prta_response.specs.Fitting.{FitsCap};
+ghost use Rattle.prta_backlog.specs.Fitting.{FitsCap};
 ghost use Rattle.prta_report.specs.Analysis.{bench_text, is_certified};
 ghost use Rattle.prta_writer.specs.Curves.{kind_of, FitsCurves};
 ghost use Rattle.prta_writer.specs.Report.{fits, most_jobs};

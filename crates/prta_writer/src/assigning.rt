@@ -1,6 +1,6 @@
 //! The text of `assign`.
 
-ghost use Rattle.std.specs.Prelude.{◌≡◌, ◌+◌, ◌*◌, ◌≤◌, ◌++◌, IfOk, length};
+ghost use Rattle.std.specs.Prelude.{◌≡◌, ◌+◌, ◌*◌, ◌≤◌, ◌++◌, IfOk};
 ghost use Rattle.prta_audsley.specs.Verdict.{verdict, Says, VerdictHolds};
 ghost use Rattle.prta_report.specs.Assignment.{verdict_line, assign_text};
 ghost use Rattle.prta_writer.specs.Assigning.{is_found};

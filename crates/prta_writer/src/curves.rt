@@ -1,11 +1,11 @@
 //! The curves of an analysis: which kind a sheet asks for, and the bench over them.
 
-ghost use Rattle.std.specs.Prelude.{◌≡◌, ◌≤◌, length, vec_len, IfOk};
-ghost use Rattle.prta_response.specs.Fitting.{FitsCap};
+ghost use Rattle.std.specs.Prelude.{◌≡◌, ◌≤◌, vec_len, IfOk};
+ghost use Rattle.prta_backlog.specs.Fitting.{FitsCap};
 ghost use Rattle.prta_writer.specs.Curves.{has_few_points, kind_for, kind_of, cap_of, FitsCurves};
 
 use crate::room::PAGE;
-use prta_backlog::Bench;
+use prta_backlog::{Bench, bench_for};
 use prta_convlane::Lane;
 use prta_dist::{Curve, Dense};
 use prta_mass::{NoMemory, Support, is_support};
@@ -66,7 +66,7 @@ pub(crate) fn curves_for(alloc: Global, sheet: &Sheet) -> Result<Curves, NoMemor
     ensures kind { IfOk result (λ curves. kind_of curves ≡ kind_for sheet.now) }
 {
     match kind_for(sheet) {
-        Kind::Cells => Ok(Curves::Cells(bench_of_cells(alloc, sheet)?)),
+        Kind::Cells => Ok(Curves::Cells(bench_for(alloc, sheet, Lane)?)),
         Kind::Steps => Ok(Curves::Steps(bench_of_steps(alloc, sheet)?)),
     }
 }
@@ -92,18 +92,6 @@ fn has_few_points(support: Support, cap: usize) -> bool
         count += is_support(support, cap, k) as usize;
     }
     count <= FEW_POINTS
-}
-
-fn bench_of_cells(alloc: Global, sheet: &Sheet) -> Result<Bench<Dense<Lane>, Lane>, NoMemory>
-    ensures { IfOk result (λ bench. FitsCap sheet.now.settings.cap bench.main bench.spare bench.kept (vec_len bench.cells) (vec_len bench.tail) (vec_len bench.room)) }
-{
-    let _tasks = sheet.tasks();
-    let cap = sheet.cap();
-    let main = Dense::new(alloc, Lane, cap)?;
-    let spare = Dense::new(alloc, Lane, cap)?;
-    let kept = Dense::new(alloc, Lane, cap)?;
-    let bench = Bench::new(alloc, main, spare, kept, Lane)?;
-    Ok(bench)
 }
 
 pub(crate) fn bench_of_steps(alloc: Global, sheet: &Sheet) -> Result<Bench<Stair, Lane>, NoMemory>

@@ -2,7 +2,7 @@
 
 ghost use Rattle.std.specs.Prelude.{◌≡◌, ◌+◌, ◌≤◌, ◌<◌, ◌++◌, OnOk, OnErr, length, vec_len, flat_map};
 ghost use Rattle.prta_outside.specs.Sink.{HasRisen};
-ghost use Rattle.prta_response.specs.Fitting.{FitsCap};
+ghost use Rattle.prta_backlog.specs.Fitting.{FitsCap};
 ghost use Rattle.prta_certfile.specs.Steps.{steps_of};
 ghost use Rattle.prta_certfile.specs.Text.{pair_text};
 ghost use Rattle.prta_report.specs.Certificates.{certify_rows, list_rows};

@@ -1,6 +1,6 @@
 //! What the numbers of a sheet mean: the laws of the analysis, for the sheet's own order of priorities.
 
-ghost use Rattle.std.specs.Prelude.{◌≡◌, None, length, All};
+ghost use Rattle.std.specs.Prelude.{◌≡◌, None};
 ghost use Rattle.prta_dual.specs.Failing.{failing_job};
 ghost use Rattle.prta_report.specs.Certificates.{broken_task};
 ghost use Rattle.prta_writer.specs.Meaning.{AreAround, AreClose, ChancesPass, AreFound, LevelsHold, NumbersHold};

@@ -2,7 +2,7 @@
 
 ghost use Rattle.std.specs.Prelude.{◌≡◌, ℕ, ◌+◌, ◌*◌, ◌≤◌, ◌<◌, ◌++◌, true, OnOk, OnErr, length, flat_map, codes};
 ghost use Rattle.prta_outside.specs.Sink.{HasRisen};
-ghost use Rattle.prta_session.specs.State.{is_fresh, stale_tasks};
+ghost use Rattle.prta_session.specs.State.{is_fresh};
 ghost use Rattle.prta_session.specs.Playing.{AreAccepted, print_count, tasks_analysed};
 ghost use Rattle.prta_session.specs.Workers.{lengthened};
 ghost use Rattle.prta_sheet.specs.Sheet.{sheet_order, hyperperiod};

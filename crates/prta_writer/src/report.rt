@@ -5,7 +5,7 @@ ghost use Rattle.prta_sheet.specs.Sheet.{sheet_order};
 ghost use Rattle.prta_sheet.specs.Counts.{job_count};
 ghost use Rattle.prta_outside.specs.Sink.{HasRisen};
 ghost use Rattle.prta_backlog.specs.Room.{room_for};
-ghost use Rattle.prta_response.specs.Fitting.{FitsCap};
+ghost use Rattle.prta_backlog.specs.Fitting.{FitsCap};
 ghost use Rattle.prta_writer.specs.Report.{fits, head, rows, last_line, report_text, most_jobs};
 ghost use Rattle.prta_writer.specs.Meaning.{AreAround, AreClose, AreFound};
 ghost use Rattle.prta_writer.specs.Writing.{Took, TookPart, TookAllBut};

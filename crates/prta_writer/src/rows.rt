@@ -6,7 +6,7 @@ ghost use Rattle.prta_sheet.specs.Counts.{job_count};
 ghost use Rattle.prta_outside.specs.Sink.{HasRisen};
 ghost use Rattle.prta_ledger.specs.Noted.{appended};
 ghost use Rattle.prta_backlog.specs.Room.{room_for};
-ghost use Rattle.prta_response.specs.Fitting.{FitsCap};
+ghost use Rattle.prta_backlog.specs.Fitting.{FitsCap};
 ghost use Rattle.prta_dual.specs.Numbers.{bounds_of, all_bounds};
 ghost use Rattle.prta_dual.specs.Entries.{entries};
 ghost use Rattle.prta_report.specs.Text.{line_of_entry};

@@ -1,10 +1,9 @@
 //! The text of `slack`.
 
-ghost use Rattle.std.specs.Prelude.{◌≡◌, ◌+◌, ◌*◌, ◌≤◌, ◌<◌, ◌++◌, None, is_none, option_map, IfOk, IfSome, length, flat_map};
+ghost use Rattle.std.specs.Prelude.{◌≡◌, ◌+◌, ◌*◌, ◌≤◌, ◌<◌, ◌++◌, None, is_none, option_map, IfOk, IfSome, length};
 ghost use Rattle.prta_dual.specs.Failing.{failing_job, failing as first_failing, found_job};
 ghost use Rattle.prta_slack.specs.Answer.{slack_of};
-ghost use Rattle.prta_sheet.specs.Sheet.{sheet_order};
-ghost use Rattle.prta_report.specs.Slacks.{line_of_slack, slack_rows, slack_text, IsListed};
+ghost use Rattle.prta_report.specs.Slacks.{slack_rows, slack_text, IsListed};
 ghost use Rattle.prta_writer.specs.Curves.{FitsCurves};
 ghost use Rattle.prta_writer.specs.Meaning.{ChancesPass};
 ghost use Rattle.prta_writer.specs.Slacks.{slack_lines, SlacksSay};

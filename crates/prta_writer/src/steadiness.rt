@@ -4,7 +4,7 @@ ghost use Rattle.std.specs.Prelude.{◌≡◌, ◌+◌, ◌≤◌, ◌<◌, ◌+
 ghost use Rattle.prta_mass.specs.Unit.{unit};
 ghost use Rattle.prta_sheet.specs.Counts.{job_count};
 ghost use Rattle.prta_outside.specs.Sink.{HasRisen};
-ghost use Rattle.prta_response.specs.Fitting.{FitsCap};
+ghost use Rattle.prta_backlog.specs.Fitting.{FitsCap};
 ghost use Rattle.prta_report.specs.Certificates.{jobs_in_turn, steady_rows, certified_rows};
 ghost use Rattle.prta_writer.specs.Report.{most_jobs};
 ghost use Rattle.prta_writer.specs.Steadiness.{number_lines};

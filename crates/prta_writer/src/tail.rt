@@ -4,7 +4,7 @@ ghost use Rattle.std.specs.Prelude.{◌≡◌, ◌+◌, ◌≤◌, ◌<◌, ◌+
 ghost use Rattle.prta_sheet.specs.Sheet.{sheet_order};
 ghost use Rattle.prta_outside.specs.Sink.{HasRisen};
 ghost use Rattle.prta_backlog.specs.Level.{sheet_level};
-ghost use Rattle.prta_response.specs.Fitting.{FitsCap};
+ghost use Rattle.prta_backlog.specs.Fitting.{FitsCap};
 ghost use Rattle.prta_tail.specs.Laws.{Passes};
 ghost use Rattle.prta_report.specs.Tails.{tail_at, tail_rows, tail_text};
 ghost use Rattle.prta_writer.specs.Report.{fits, most_jobs};

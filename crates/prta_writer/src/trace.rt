@@ -2,8 +2,8 @@
 
 ghost use Rattle.std.specs.Prelude.{◌≡◌, ◌+◌, ◌*◌, ◌<◌, ◌≤◌, ◌^◌, ◌++◌, length, option_map, flat_map, IfOk, IfSome, All};
 ghost use Rattle.std.specs.List.{range_with_len};
-ghost use Rattle.prta_sheet.specs.Sheet.{task_at, horizon};
-ghost use Rattle.prta_sheet.specs.Job.{analysed_jobs, deadline_of};
+ghost use Rattle.prta_sheet.specs.Sheet.{horizon};
+ghost use Rattle.prta_sheet.specs.Job.{analysed_jobs};
 ghost use Rattle.prta_jobs.specs.Laws.{IsBefore};
 ghost use Rattle.prta_ticksim.specs.Times.{job_at};
 ghost use Rattle.prta_report.specs.TraceLaws.{AreInTurn};

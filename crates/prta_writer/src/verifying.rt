@@ -3,9 +3,9 @@
 ghost use Rattle.std.specs.Prelude.{◌≡◌, ◌+◌, ◌*◌, ◌≤◌, ◌<◌, ◌++◌, true, None, is_none, option_map, IfOk, IfSome, OnOk, OnErr, length, vec_len, flat_map};
 ghost use Rattle.prta_sheet.specs.Sheet.{sheet_order};
 ghost use Rattle.prta_outside.specs.Sink.{HasRisen};
-ghost use Rattle.prta_response.specs.Fitting.{FitsCap};
+ghost use Rattle.prta_backlog.specs.Fitting.{FitsCap};
 ghost use Rattle.prta_certfile.specs.Laws.{AreLevels, IsLevel};
-ghost use Rattle.prta_report.specs.Certificates.{stated_at, broken_in, broken_task, level_rows, verify_rows, steady_text, verify_text};
+ghost use Rattle.prta_report.specs.Certificates.{broken_in, broken_task, level_rows, verify_rows, steady_text, verify_text};
 ghost use Rattle.prta_writer.specs.Report.{fits, most_jobs};
 ghost use Rattle.prta_writer.specs.Meaning.{NumbersHold};
 ghost use Rattle.prta_writer.specs.Verifying.{task_of, IsBrokenAt};

@@ -1,6 +1,6 @@
 //! Finishes of jobs.
 
-ghost use Rattle.std.specs.Prelude.{◌≡◌, IsTrue, length, All};
+ghost use Rattle.std.specs.Prelude.{IsTrue, All};
 ghost use Rattle.prta_ticksim.specs.Times.{IsTime};
 
 use super::*;

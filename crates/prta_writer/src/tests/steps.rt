@@ -1,6 +1,6 @@
 //! Reports over curves of steps, also of sheets that ask for curves of cells: the text is the same.
 
-ghost use Rattle.std.specs.Prelude.{◌≡◌, ◌+◌, ◌*◌, ◌≤◌, IfOk, length, vec_len};
+ghost use Rattle.std.specs.Prelude.{◌+◌, ◌*◌, ◌≤◌, IfOk, length, vec_len};
 ghost use Rattle.prta_report.specs.declared.page.TheConstants.{LINE};
 ghost use Rattle.prta_backlog.specs.Room.{room_for};
 ghost use Rattle.prta_writer.specs.Report.{most_jobs};

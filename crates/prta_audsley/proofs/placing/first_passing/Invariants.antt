@@ -1,6 +1,6 @@
 -- none of the tasks so far passes lowest
-use Rattle.std.proofs.Common.{◌≡◌, ℕ, ◌<◌, length, vec_len}
-use Rattle.prta_response.specs.Fitting.{FitsCap}
+use Rattle.std.proofs.Common.{ℕ, ◌<◌, vec_len}
+use Rattle.prta_backlog.specs.Fitting.{FitsCap}
 use Rattle.prta_audsley.specs.Passing.{task_passes}
 use Rattle.prta_audsley.specs.Placing.{Fails}
 use Rattle.prta_audsley.proofs.placing.first_passing.Given as goal

@@ -1,5 +1,5 @@
 -- Each turn fills one more place as the greedy does.
-use Rattle.std.proofs.Common.{◌≡◌, ◌-◌, ◌<◌, ℕ, nat_lt, List, length, swap, refl, ap, ◌∙◌, arith}
+use Rattle.std.proofs.Common.{◌≡◌, ◌-◌, ◌<◌, ℕ, nat_lt, List, length, swap, ap, ◌∙◌, arith}
 use Rattle.prta_sheet.specs.Sheet.{Task}
 use Rattle.prta_sheet.specs.Machine.{place}
 use Rattle.prta_audsley.specs.Passing.{task_passes}

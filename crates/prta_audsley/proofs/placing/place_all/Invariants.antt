@@ -1,6 +1,6 @@
 -- the last places of the order are filled as the greedy fills them
-use Rattle.std.proofs.Common.{◌≡◌, length, vec_len}
-use Rattle.prta_response.specs.Fitting.{FitsCap}
+use Rattle.std.proofs.Common.{length, vec_len}
+use Rattle.prta_backlog.specs.Fitting.{FitsCap}
 use Rattle.prta_audsley.specs.Passing.{task_passes}
 use Rattle.prta_audsley.proofs.LowestPlaces.{IsPlacing}
 use Rattle.prta_audsley.proofs.placing.place_all.Given as goal

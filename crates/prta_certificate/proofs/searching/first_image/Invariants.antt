@@ -1,6 +1,6 @@
 -- the main curve is the image of this number, and none before it certifies
 use Rattle.std.proofs.Common.{◌≡◌, ℕ, ◌<◌, false, vec_len}
-use Rattle.prta_response.specs.Fitting.{FitsCap}
+use Rattle.prta_backlog.specs.Fitting.{FitsCap}
 use Rattle.prta_backlog.specs.Level.{sheet_level}
 use Rattle.prta_certificate.specs.Certificate.{certifies}
 use Rattle.prta_certificate.specs.Candidates.{image_of_point}

@@ -1,7 +1,7 @@
 -- the pass follows its level run, with all entries and numbers so far
 use Rattle.std.proofs.Common.{◌-◌, ◌≡◌, ◌≤◌, vec_len}
 use Rattle.prta_sheet.specs.Sheet.{horizon}
-use Rattle.prta_response.specs.Fitting.{FitsCap}
+use Rattle.prta_backlog.specs.Fitting.{FitsCap}
 use Rattle.prta_backlog.specs.Pass.{level_of, after_last}
 use Rattle.prta_dual.specs.Entries.{entries_before}
 use Rattle.prta_dual.proofs.Passing.{Follows, HaveNoted}

@@ -1,6 +1,6 @@
 -- no job of the tasks so far fails
 use Rattle.std.proofs.Common.{◌≡◌, vec_len}
-use Rattle.prta_response.specs.Fitting.{FitsCap}
+use Rattle.prta_backlog.specs.Fitting.{FitsCap}
 use Rattle.prta_dual.specs.Failing.{failing_job}
 use Rattle.prta_dual.proofs.FirstFailing.{failing_from}
 use Rattle.prta_dual.proofs.failing.first_failing.Given as goal

@@ -1,7 +1,7 @@
 -- the sheet passes with the lower end and not with the upper one, which come nearer
 use Rattle.std.proofs.Common.{◌≡◌, ◌<◌, ◌≤◌, ◌-◌, true, false, vec_len}
 use Rattle.prta_sheet.specs.Added.{IsSheetWithAdded}
-use Rattle.prta_response.specs.Fitting.{FitsCap}
+use Rattle.prta_backlog.specs.Fitting.{FitsCap}
 use Rattle.prta_slack.specs.Passing.{passes_with}
 use Rattle.prta_slack.proofs.finding.last_passing.Given as goal
 

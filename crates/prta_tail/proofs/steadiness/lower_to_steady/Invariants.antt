@@ -3,7 +3,7 @@ use Rattle.std.proofs.Common.{◌≡◌, ◌-◌, ◌≤◌, length, vec_len}
 use Rattle.prta_sheet.specs.Sheet.{hyperperiod}
 use Rattle.prta_sheet.specs.Job.{nth_job}
 use Rattle.prta_backlog.specs.Pass.{level_of, after_last}
-use Rattle.prta_response.specs.Fitting.{FitsCap}
+use Rattle.prta_backlog.specs.Fitting.{FitsCap}
 use Rattle.prta_certificate.specs.Certificate.{steady_number}
 use Rattle.prta_certificate.proofs.SteadyPass.{Awaiting}
 use Rattle.prta_tail.proofs.Lowering.{Lowered}

@@ -3,7 +3,7 @@ use Rattle.std.proofs.Common.{◌≡◌, ◌-◌, ◌≤◌, map, length, vec_le
 use Rattle.std.specs.List.{range_with_len}
 use Rattle.prta_sheet.specs.Job.{nth_job}
 use Rattle.prta_backlog.specs.Level.{sheet_level}
-use Rattle.prta_response.specs.Fitting.{FitsCap}
+use Rattle.prta_backlog.specs.Fitting.{FitsCap}
 use Rattle.prta_tail.specs.Tail.{base_list, image_of, least_steady}
 use Rattle.prta_tail.proofs.steadiness.tail_steady.Given as goal
 

@@ -1,6 +1,6 @@
 -- the amounts of the tasks so far
 use Rattle.std.proofs.Common.{◌≡◌, ◌≤◌, vec_len}
-use Rattle.prta_response.specs.Fitting.{FitsCap}
+use Rattle.prta_backlog.specs.Fitting.{FitsCap}
 use Rattle.prta_writer.specs.Amounts.{amounts_of, AreSmall}
 use Rattle.prta_writer.proofs.amounts.amounts_of.Given as goal
 

@@ -1,10 +1,10 @@
 -- Each turn plays one more line; at the end what stands on the page is put.
-use Rattle.std.proofs.Common.{◌≡◌, ℕ, ◌+◌, ◌*◌, ◌≤◌, ◌++◌, List, [], ◌∷◌, length, append-nil, refl, ap, sym, ◌∙◌, subst, arith}
+use Rattle.std.proofs.Common.{◌≡◌, ℕ, ◌+◌, ◌*◌, ◌≤◌, ◌++◌, List, length, append-nil, refl, ap, sym, ◌∙◌, subst, arith}
 use Rattle.prta_session.specs.declared.script.Line.{Line}
 use Rattle.prta_session.specs.State.{SessionState}
 use Rattle.prta_session.specs.Playing.{AreAccepted, print_count}
 use Rattle.prta_report.specs.Page.{PageParts}
-use Rattle.prta_writer.specs.Playing.{session_text, session_after, session_played}
+use Rattle.prta_writer.specs.Playing.{session_text, session_played}
 use Rattle.prta_writer.specs.Writing.{Took, TookPart}
 use Rattle.prta_writer.proofs.Parts.{anyway}
 use Rattle.prta_writer.proofs.Taking.{put_whole, part_then}

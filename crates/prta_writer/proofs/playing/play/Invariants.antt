@@ -1,10 +1,8 @@
 -- the lines so far are played: the text and the tasks of the script are those so far, and then those of the lines left
-use Rattle.std.proofs.Common.{◌≡◌, ℕ, ◌+◌, ◌*◌, ◌≤◌, ◌++◌, List, length}
+use Rattle.std.proofs.Common.{◌≡◌, ◌+◌, ◌*◌, ◌≤◌, length}
 use Rattle.prta_report.specs.declared.page.TheConstants.{LINE}
-use Rattle.prta_session.specs.Workers.{lengthened}
 use Rattle.prta_session.specs.Playing.{AreAccepted, print_count}
 use Rattle.prta_writer.specs.Playing.{session_played}
-use Rattle.prta_writer.specs.Writing.{TookAllBut}
 use Rattle.prta_writer.proofs.Sessions.{IsPlayed}
 use Rattle.prta_writer.proofs.playing.play.Given as goal
 

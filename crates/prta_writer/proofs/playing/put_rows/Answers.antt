@@ -1,4 +1,4 @@
-use Rattle.std.proofs.Common.{rules, ℕ, ◌<◌, ◌++◌, List, length, flat_map, ap, ◌∙◌, subst, arith}
+use Rattle.std.proofs.Common.{rules, ◌<◌, ◌++◌, length, flat_map, ap, ◌∙◌, subst, arith}
 use Rattle.prta_sheet.specs.Sheet.{Sheet, sheet_order}
 use Rattle.prta_report.specs.Analysis.{analyse_rows}
 use Rattle.prta_writer.specs.Writing.{TookPart, TookAllBut}

@@ -1,10 +1,10 @@
-use Rattle.std.proofs.Common.{rules, ◌≡◌, ℕ, ◌++◌, List, codes, ap, sym, ◌∙◌, append_assoc, subst}
+use Rattle.std.proofs.Common.{rules, ◌≡◌, ℕ, ◌++◌, List, codes, ap, append_assoc, subst}
 use Rattle.prta_sheet.specs.Sheet.{Sheet, hyperperiod}
 use Rattle.prta_sheet.specs.Counts.{all_jobs}
 use Rattle.prta_report.specs.Page.{PageParts}
 use Rattle.prta_report.specs.Text.{count_line}
 use Rattle.prta_writer.specs.Writing.{TookPart, TookAllBut}
-use Rattle.prta_writer.proofs.Taking.{more_put, longer, part_then, part_of_more, line_written}
+use Rattle.prta_writer.proofs.Taking.{more_put, part_then, part_of_more, line_written}
 use Rattle.prta_writer.proofs.playing.put_title.Given as given
 use Rattle.prta_writer.proofs.playing.put_title.Goals as goal
 

@@ -1,7 +1,7 @@
 -- the rows of the tasks so far; what is on the desk and the bench keeps its size
 use Rattle.std.proofs.Common.{◌≡◌, ◌+◌, ◌≤◌, ◌++◌, length, vec_len, flat_map}
 use Rattle.std.specs.List.{range_with_len}
-use Rattle.prta_response.specs.Fitting.{FitsCap}
+use Rattle.prta_backlog.specs.Fitting.{FitsCap}
 use Rattle.prta_writer.specs.Report.{rows}
 use Rattle.prta_writer.specs.Writing.{TookAllBut}
 use Rattle.prta_writer.proofs.report.put_rows.Given as goal

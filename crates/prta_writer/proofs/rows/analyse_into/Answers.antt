@@ -1,8 +1,7 @@
-use Rattle.std.proofs.Common.{◌≡◌, ℕ, ◌+◌, ◌≤◌, ◌++◌, Bool, take, drop, List, Option, length, ap, sym, ◌∙◌, subst}
+use Rattle.std.proofs.Common.{◌≡◌, ℕ, ◌+◌, ◌≤◌, ◌++◌, Bool, take, drop, List, length, ap, sym, ◌∙◌, subst}
 use Rattle.std.proofs.Math.Path.{fun_ext}
 use Rattle.std.proofs.Math.Seq.{take-append_seam}
 use Rattle.prta_sheet.specs.Sheet.{Sheet}
-use Rattle.prta_ledger.specs.declared.entry.Entry.{Entry}
 use Rattle.prta_ledger.specs.Noted.{appended}
 use Rattle.prta_backlog.specs.Level.{Level, sheet_level}
 use Rattle.prta_backlog.specs.Pass.{level_of}

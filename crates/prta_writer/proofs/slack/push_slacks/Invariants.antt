@@ -1,5 +1,5 @@
 -- the lines of the tasks so far
-use Rattle.std.proofs.Common.{◌≡◌, ◌+◌, ◌*◌, ◌≤◌, ◌++◌, length, flat_map}
+use Rattle.std.proofs.Common.{◌≡◌, ◌+◌, ◌*◌, ◌≤◌, ◌++◌, flat_map}
 use Rattle.std.specs.List.{range_with_len}
 use Rattle.prta_slack.specs.Answer.{slack_of}
 use Rattle.prta_report.specs.declared.page.TheConstants.{LINE}

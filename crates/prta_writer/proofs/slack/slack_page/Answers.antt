@@ -1,4 +1,4 @@
-use Rattle.std.proofs.Common.{◌≡◌, ℕ, Bool, true, false, not, Option, Some, None, is_some, is_none, refl, ◌∙◌}
+use Rattle.std.proofs.Common.{◌≡◌, Bool, true, false, not, Option, Some, None, is_some, is_none, refl, ◌∙◌}
 use Rattle.prta_writer.proofs.Checks.{none_fails}
 use Rattle.prta_writer.proofs.slack.slack_page.Goals as goal
 

@@ -1,6 +1,6 @@
 -- no list of the tasks so far is broken
 use Rattle.std.proofs.Common.{◌≡◌, vec_len}
-use Rattle.prta_response.specs.Fitting.{FitsCap}
+use Rattle.prta_backlog.specs.Fitting.{FitsCap}
 use Rattle.prta_report.specs.Certificates.{broken_task}
 use Rattle.prta_writer.proofs.Stated.{broken_from}
 use Rattle.prta_writer.proofs.verifying.first_broken.Given as goal

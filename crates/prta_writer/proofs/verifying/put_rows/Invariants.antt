@@ -1,7 +1,7 @@
 -- the rows of the tasks so far
 use Rattle.std.proofs.Common.{◌≡◌, ◌+◌, ◌≤◌, ◌++◌, length, vec_len, flat_map}
 use Rattle.std.specs.List.{range_with_len}
-use Rattle.prta_response.specs.Fitting.{FitsCap}
+use Rattle.prta_backlog.specs.Fitting.{FitsCap}
 use Rattle.prta_report.specs.Certificates.{verify_rows}
 use Rattle.prta_writer.specs.Writing.{TookAllBut}
 use Rattle.prta_writer.proofs.verifying.put_rows.Given as goal
